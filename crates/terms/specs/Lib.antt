@@ -1,3 +1,4 @@
+pub mod Meaning
 pub mod Refusals
 pub mod Rows
 pub mod Written

@@ -1,5 +1,6 @@
 //! Constants, nulls, variables, and what is made of them: atoms, facts and patterns, and atoms as a caller writes them.
 pub mod atom;
+pub mod fact;
 pub mod predicate;
 pub mod raw;
 pub mod refusal;

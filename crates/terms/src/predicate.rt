@@ -17,7 +17,13 @@ impl Predicate {
     pub fn new(number: usize) -> Option<Predicate>
         ensures { λ r. ⌜ Cases r ((1 ≤ number) × (number ≤ 64) → ⊥) (λ p. p .number ≡ number) ⌝ }
     {
-        if number >= 1 && number <= 64 { Some(Predicate { number: number as u8 }) } else { None }
+        if number >= 1 && number <= 64 {
+            Some(Predicate {
+                number: number as u8,
+            })
+        } else {
+            None
+        }
     }
 
     pub fn number(self) -> usize

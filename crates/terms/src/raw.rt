@@ -37,7 +37,11 @@ impl RawAtom {
             [a, b, c] => Some(Row::Three(*a, *b, *c)),
             [a, b, c, d, ..] => Some(Row::Four(*a, *b, *c, *d)),
         };
-        RawAtom { predicate, count, first }
+        RawAtom {
+            predicate,
+            count,
+            first,
+        }
     }
 
     /// The predicate's number, as written.

@@ -73,7 +73,12 @@ pub fn read_row<T: Sort>(row: Row<RawTerm>) -> Result<Row<T>, usize>
         Row::Two(a, b) => Ok(Row::Two(read_at(a, 0)?, read_at(b, 1)?)),
         Row::Three(a, b, c) => Ok(Row::Three(read_at(a, 0)?, read_at(b, 1)?, read_at(c, 2)?)),
         Row::Four(a, b, c, d) => {
-            Ok(Row::Four(read_at(a, 0)?, read_at(b, 1)?, read_at(c, 2)?, read_at(d, 3)?))
+            Ok(Row::Four(
+                read_at(a, 0)?,
+                read_at(b, 1)?,
+                read_at(c, 2)?,
+                read_at(d, 3)?,
+            ))
         }
     }
 }

@@ -45,7 +45,11 @@ impl Constant {
     pub fn new(number: u32) -> Option<Constant>
         ensures { λ r. ⌜ Cases r ((1 ≤ number) × (number ≤ 999999) → ⊥) (λ c. c .number ≡ number) ⌝ }
     {
-        if number >= 1 && number <= 999_999 { Some(Constant { number }) } else { None }
+        if number >= 1 && number <= 999_999 {
+            Some(Constant { number })
+        } else {
+            None
+        }
     }
 
     pub fn number(self) -> u32
@@ -60,7 +64,11 @@ impl Null {
     pub fn new(number: u32) -> Option<Null>
         ensures { λ r. ⌜ Cases r (number ≤ 999999 → ⊥) (λ k. k .number ≡ number) ⌝ }
     {
-        if number <= 999_999 { Some(Null { number }) } else { None }
+        if number <= 999_999 {
+            Some(Null { number })
+        } else {
+            None
+        }
     }
 
     pub fn number(self) -> u32
@@ -75,7 +83,13 @@ impl Variable {
     pub fn new(number: u32) -> Option<Variable>
         ensures { λ r. ⌜ Cases r ((1 ≤ number) × (number ≤ 8) → ⊥) (λ v. v .index + 1 ≡ number) ⌝ }
     {
-        if number >= 1 && number <= 8 { Some(Variable { index: (number - 1) as u8 }) } else { None }
+        if number >= 1 && number <= 8 {
+            Some(Variable {
+                index: (number - 1) as u8,
+            })
+        } else {
+            None
+        }
     }
 
     /// Its number, from 1 to 8.
