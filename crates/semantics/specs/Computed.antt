@@ -1,14 +1,14 @@
 -- The same by computation: fitting, the bound atom, search, fitting at places, the guard. What the code is proved equal to
 -- on the way to the relations of the subject.
 use mathlib.Core.List.{List, [], _∷_}
-use mathlib.Core.Bool.{Bool, true, false, cond, _&&_}
+use mathlib.Core.Bool.{Bool, true, false, cond, not, _&&_, _||_}
 use Prim.Native.Nat.{ℕ, suc}
 use lib.Dec.{eqb}
-use Rattle.std.specs.Options.{mapped, valueOr, orOther}
+use Rattle.std.specs.Options.{isSome, mapped, valueOr, orOther}
 use Rattle.std.specs.Finite.{update}
 use Rattle.std.specs.declared.option.Option.{Option}
 use Rattle.std.specs.declared.option.Option.the-variants.{Some, None}
-use Rattle.semantics.specs.Subject.{Slot, con, var, Pattern, Atom, Binding, in-slots}
+use Rattle.semantics.specs.Subject.{Slot, con, var, Pattern, Atom, Binding, in-slots, in-patterns}
 
 abbrev pub nothing : Binding
 nothing i = None
@@ -56,6 +56,12 @@ first-of f (x ∷ xs) = orOther (f x) (first-of f xs)
 abbrev pub search : List Atom → Binding → List Pattern → Option Binding
 search pile b [] = Some b
 search pile b (p ∷ ps) = first-of (λ a. and-then (fit b p a) (λ c. search pile c ps)) pile
+
+-- whether a variable of the slots that b does not bind stands in the patterns
+abbrev pub reaches : Binding → List Slot → List Pattern → Bool
+reaches b [] ps = false
+reaches b (con c ∷ ss) ps = reaches b ss ps
+reaches b (var i ∷ ss) ps = (not (isSome (b i)) && in-patterns i ps) || reaches b ss ps
 
 -- every variable of the first stands in the second
 abbrev pub covers : List Slot → List Slot → Bool

@@ -8,7 +8,7 @@ use Rattle.std.specs.Options.{isSome}
 use Rattle.std.specs.Vec.{Every}
 use Rattle.std.specs.Finite.{nth}
 use Rattle.std.specs.declared.option.Option.{Option}
-use Rattle.std.specs.declared.option.Option.the-variants.{Some}
+use Rattle.std.specs.declared.option.Option.the-variants.{Some, None}
 
 -- what stands at one place of a pattern: a constant by its number, or variable v1, v2, .. by its number
 pub data Slot : Type 0 where
@@ -58,6 +58,11 @@ pub record LeastFit (b : Binding) (p : Pattern) (a : Atom) (c : Binding) : Type 
 abbrev pub NoFit : Binding → Pattern → Atom → Type 0
 NoFit b p a = (d : Binding) → Extends b d → Fits d p a → ⊥
 
+-- what fitting gives: the least binding, or nothing where none is
+abbrev pub Fitted : Binding → Pattern → Atom → Option Binding → Type 0
+Fitted b p a (Some c) = LeastFit b p a c
+Fitted b p a None = NoFit b p a
+
 -- a candidate is any property of atoms
 abbrev pub Candidate : Type 1
 Candidate = Atom → Type 0
@@ -93,6 +98,11 @@ Match m b ps = Exactly b ps × Every (Holds m b) ps
 
 abbrev pub HasMatch : Candidate → List Pattern → Type 0
 HasMatch m ps = ∥ ((b : Binding) × Match m b ps) ∥₁
+
+-- what a search gives: a match, or nothing where there is none
+abbrev pub Searched : Candidate → List Pattern → Option Binding → Type 0
+Searched m ps (Some b) = Match m b ps
+Searched m ps None = HasMatch m ps → ⊥
 
 -- m obeys the constraint: it has no match in m
 abbrev pub Obeys : Candidate → List Pattern → Type 0

@@ -7,3 +7,4 @@ pub mod refusal;
 pub mod row;
 pub mod sort;
 pub mod term;
+pub mod variables;

@@ -1,0 +1,3 @@
+//! Bindings, and how patterns fit atoms under them.
+pub mod binding;
+pub mod fit;
