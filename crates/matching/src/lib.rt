@@ -1,3 +1,5 @@
 //! Bindings, and how patterns fit atoms under them.
 pub mod binding;
 pub mod fit;
+pub mod instance;
+pub mod trial;

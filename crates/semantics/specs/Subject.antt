@@ -63,6 +63,15 @@ abbrev pub Fitted : Binding → Pattern → Atom → Option Binding → Type 0
 Fitted b p a (Some c) = LeastFit b p a c
 Fitted b p a None = NoFit b p a
 
+-- some binding that extends b makes the pattern fit the atom
+abbrev pub Fittable : Binding → Pattern → Atom → Type 0
+Fittable b p a = (c : Binding) × Extends b c × Fits c p a
+
+-- the pattern under b: the atom that it fits, or nothing where it fits none since a variable is not bound
+abbrev pub Instance : Binding → Pattern → Option Atom → Type 0
+Instance b p (Some a) = Fits b p a
+Instance b p None = (a : Atom) → Fits b p a → ⊥
+
 -- a candidate is any property of atoms
 abbrev pub Candidate : Type 1
 Candidate = Atom → Type 0
