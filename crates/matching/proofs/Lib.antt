@@ -1,2 +1,3 @@
 pub mod Instanced
+pub mod Rounds
 pub mod Slots

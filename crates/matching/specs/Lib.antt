@@ -1,2 +1,3 @@
 pub mod Bindings
 pub mod Instances
+pub mod Searches

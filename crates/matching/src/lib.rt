@@ -2,4 +2,5 @@
 pub mod binding;
 pub mod fit;
 pub mod instance;
+pub mod search;
 pub mod trial;
