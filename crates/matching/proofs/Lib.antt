@@ -1,3 +1,4 @@
 pub mod Instanced
+pub mod Placed
 pub mod Rounds
 pub mod Slots

@@ -5,6 +5,8 @@ use lib.ListN.{getD}
 use Rattle.std.specs.Options.{mapped}
 use Rattle.std.specs.declared.option.Option.{Option}
 use Rattle.std.specs.declared.option.Option.the-variants.{None}
+use Rattle.std.specs.declared.result.Result.{Result}
+use Rattle.std.specs.declared.result.Result.the-variants.{Ok, Err}
 use Rattle.semantics.specs.Subject.{Binding}
 use Rattle.terms.specs.Meaning.{term-meant}
 use Rattle.terms.specs.declared.term.Term.{Term}
@@ -13,3 +15,7 @@ use Rattle.terms.specs.declared.term.Term.{Term}
 abbrev pub bound : List (Option Term) → Binding
 bound b zero = None
 bound b (suc i) = mapped term-meant (getD b i None)
+
+abbrev pub bound-or : {E : Type 0} → Result (List (Option Term)) E → Result Binding E
+bound-or (Ok b) = Ok (bound b)
+bound-or (Err e) = Err e

@@ -1,3 +1,4 @@
 pub mod Bindings
 pub mod Instances
+pub mod Places
 pub mod Searches

@@ -2,5 +2,6 @@
 pub mod binding;
 pub mod fit;
 pub mod instance;
+pub mod places;
 pub mod search;
 pub mod trial;
