@@ -77,6 +77,7 @@ module _ (whole : List Atom) (b : Binding) (p : Pattern) (ps : List Pattern) (k 
     where
       later : r ≡ None → reaches b (p .slots) ps ≡ false → tried whole b p ps (drop (k + 1) whole) ≡ None
       later e once = none-first (λ a. and-then (fit b p a) (λ d. search whole d ps)) (drop (k + 1) whole) (once-enough whole b p ps once x c (sym fits) (sym is ∙ e))
+
       go : (o : Option Binding) → r ≡ o → orOther o (tried whole b p ps (drop (k + 1) whole)) ≡ o
       go (Some y) e = refl
       go None e = ⊎-elim (λ s. absurd (both-ways false refl (sym (ap isSome e) ∙ s))) (later e) why

@@ -16,7 +16,7 @@ use Rattle.std.proofs.shelf.Tests.{eq-eqb, ne-eqb, cases-eq}
 use Rattle.semantics.specs.Subject.{Binding, con, var}
 use Rattle.semantics.specs.Computed.{bind, fit-slot}
 use Rattle.terms.specs.Meaning.{term-meant}
-use Rattle.terms.specs.declared.term.Constant.{Constant}
+use Rattle.terms.specs.declared.constant.Constant.{Constant}
 use Rattle.terms.specs.declared.term.Term.{Term}
 use Rattle.terms.specs.declared.term.Term.the-variants.{Constant as fixed}
 use Rattle.terms.proofs.Meant.{same-meant}
@@ -34,8 +34,8 @@ bound-more b i t h = fun-ext at
     at zero = sym (ap (λ w. cond w (Some (term-meant t)) None) (ne-eqb zero (suc i) (λ e. omega arith)))
     at (suc k) =
         elim (cases-eq i k) [
-          inl e ↦ ap (λ j. mapped term-meant (getD (set b i (Some t)) j None)) (sym e) ∙ ap (mapped term-meant) (getD-set-same b i (Some t) None h) ∙ sym (ap (λ w. cond w (Some (term-meant t)) (mapped term-meant (getD b k None))) (eq-eqb (suc k) (suc i) (ap suc (sym e))))
-        | inr n ↦ ap (mapped term-meant) (getD-set-other b i k (Some t) None (λ e. n (sym e))) ∙ sym (ap (λ w. cond w (Some (term-meant t)) (mapped term-meant (getD b k None))) (ne-eqb (suc k) (suc i) (λ e. n (omega arith))))
+          | inl e ↦ ap (λ j. mapped term-meant (getD (set b i (Some t)) j None)) (sym e) ∙ ap (mapped term-meant) (getD-set-same b i (Some t) None h) ∙ sym (ap (λ w. cond w (Some (term-meant t)) (mapped term-meant (getD b k None))) (eq-eqb (suc k) (suc i) (ap suc (sym e))))
+          | inr n ↦ ap (mapped term-meant) (getD-set-other b i k (Some t) None (λ e. n (sym e))) ∙ sym (ap (λ w. cond w (Some (term-meant t)) (mapped term-meant (getD b k None))) (ne-eqb (suc k) (suc i) (λ e. n (omega arith))))
         ]
 
 -- variable i of the binding, which the code reads at k with a default of its own

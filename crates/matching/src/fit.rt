@@ -37,13 +37,7 @@ fn fit_slot(binding: Binding, slot: PatternTerm, term: Term) -> Option<Binding>
                     more[index] = Some(term);
                     Some(more)
                 }
-                Some(old) => {
-                    if old == term {
-                        Some(binding)
-                    } else {
-                        None
-                    }
-                }
+                Some(old) => { if old == term { Some(binding) } else { None } }
             }
         }
     }

@@ -35,7 +35,11 @@ fn bound_row(binding: Binding, slots: Row<PatternTerm>) -> Option<Row<Term>>
         Row::One(a) => Some(Row::One(bound_term(binding, a)?)),
         Row::Two(a, b) => Some(Row::Two(bound_term(binding, a)?, bound_term(binding, b)?)),
         Row::Three(a, b, c) => {
-            Some(Row::Three(bound_term(binding, a)?, bound_term(binding, b)?, bound_term(binding, c)?))
+            Some(Row::Three(
+                bound_term(binding, a)?,
+                bound_term(binding, b)?,
+                bound_term(binding, c)?,
+            ))
         }
         Row::Four(a, b, c, d) => Some(Row::Four(
             bound_term(binding, a)?,

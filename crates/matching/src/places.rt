@@ -3,32 +3,50 @@ ghost use Rattle.matching.specs.Bindings.{bound, bound-or};
 ghost use Rattle.matching.specs.Places.{FittedAt, Placed};
 ghost use Rattle.matching.specs.Searches.{pile, patterns-meant};
 ghost use Rattle.terms.specs.Meaning.{pattern-meant};
-use crate::binding::unbound;
 use crate::binding::Binding;
+use crate::binding::unbound;
 use crate::fit::fit;
 use shelves::stock::Stock;
 use terms::atom::Pattern;
 use terms::refusal::Refusal;
 
 /// The binding, extended so that the pattern of that index fits the atom at the place.
-fn fit_at<S: Stock>(stock: &S, binding: Binding, index: usize, pattern: &Pattern, place: usize) -> Result<Binding, Refusal>
+fn fit_at<S: Stock>(
+    stock: &S,
+    binding: Binding,
+    index: usize,
+    pattern: &Pattern,
+    place: usize,
+) -> Result<Binding, Refusal>
     ensures { λ r. ⌜ FittedAt (pile (S·Stock .list (now (stock .entry)))) (bound binding) index (pattern-meant (now (pattern .entry))) place (bound-or r) ⌝ }
 {
     let Some(atom) = stock.get(place) else {
-        return Err(Refusal::PlacePastPile { pattern: index, place });
+        return Err(Refusal::PlacePastPile {
+            pattern: index,
+            place,
+        });
     };
     match fit(binding, pattern, &atom) {
         Some(more) => Ok(more),
-        None => Err(Refusal::AtomDoesNotFit { pattern: index, place }),
+        None => Err(Refusal::AtomDoesNotFit {
+            pattern: index,
+            place,
+        }),
     }
 }
 
 /// The one binding under which each pattern fits the atom at its place; else the least pattern index that fails.
-pub fn fit_places<S: Stock>(stock: &S, patterns: &[Pattern], places: &[usize]) -> Result<Binding, Refusal>
+pub fn fit_places<S: Stock>(
+    stock: &S,
+    patterns: &[Pattern],
+    places: &[usize],
+) -> Result<Binding, Refusal>
     ensures { λ r. ⌜ Placed (pile (S·Stock .list (now (stock .entry)))) (patterns-meant (now (patterns .entry))) (now (places .entry)) (bound-or r) ⌝ }
 {
     if places.len() != patterns.len() {
-        return Err(Refusal::WrongNumberOfPlaces { places: places.len() });
+        return Err(Refusal::WrongNumberOfPlaces {
+            places: places.len(),
+        });
     }
     let mut binding = unbound();
     for (index, pattern) in patterns.iter().enumerate() {

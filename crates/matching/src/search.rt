@@ -10,14 +10,14 @@ ghost use Rattle.terms.specs.Rows.{listed};
 ghost use mathlib.Core.Bool.{_||_};
 ghost use mathlib.Core.List.{List, [], _∷_};
 ghost use mathlib.Core.Path.{_≡_};
-use crate::binding::unbound;
 use crate::binding::Binding;
+use crate::binding::unbound;
 use crate::fit::fit;
 use shelves::stock::Stock;
 use terms::atom::Pattern;
 use terms::row::Row;
 use terms::term::PatternTerm;
-use terms::term::Variable;
+use terms::variable::Variable;
 
 /// Whether the variable stands in one of the patterns.
 fn stands_in(variable: Variable, patterns: &[Pattern]) -> bool
@@ -53,7 +53,9 @@ fn pattern_reaches(binding: Binding, pattern: &Pattern, later: &[Pattern]) -> bo
         Row::One(a) => slot_reaches(binding, a, later),
         Row::Two(a, b) => slot_reaches(binding, a, later) || slot_reaches(binding, b, later),
         Row::Three(a, b, c) => {
-            slot_reaches(binding, a, later) || slot_reaches(binding, b, later) || slot_reaches(binding, c, later)
+            slot_reaches(binding, a, later)
+                || slot_reaches(binding, b, later)
+                || slot_reaches(binding, c, later)
         }
         Row::Four(a, b, c, d) => {
             slot_reaches(binding, a, later)

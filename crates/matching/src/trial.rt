@@ -21,7 +21,10 @@ impl Drop for Trial<'_> {
         ensures { λ _. ⌜ now (self .exit .0) ≡ self .entry .before ⌝ }
     {
         *self.binding = self.before;
-        let Trial { binding: _, before: _ } = self;
+        let Trial {
+            binding: _,
+            before: _,
+        } = self;
     }
 }
 

@@ -62,9 +62,9 @@ module _ (pile : List Atom) where
           fits = longer c ps ks i p k ep ek (at-more b c (take i ps) (take i ks) (g .more) (so .fits)) (a, there, g .gives);
           exact = λ v. g .exact v ∙ ap (λ w. w || in-slots v (p .slots)) (so .exact v) ∙ sym (in-longer v ps i p ep);
           least = λ d f.
-            let r = shorter d ps ks i p k ep ek f in
-            let h = fit-complete b d p a (so .least d (r .0)) (same-place d (r .1)) in
-            subst (λ y. Extends y d) (some-is (sym (h .1) ∙ e)) (h .2);
+              let r = shorter d ps ks i p k ep ek f in
+              let h = fit-complete b d p a (so .least d (r .0)) (same-place d (r .1)) in
+              subst (λ y. Extends y d) (some-is (sym (h .1) ∙ e)) (h .2);
         }
       where
         same-place : (d : Binding) → AtPlace d p k → Fits d p a

@@ -25,6 +25,7 @@ first-found {A} {B} f (x ∷ xs) y e = go (first-found f xs y) (f x) refl e
   where
     Later : Type 0
     Later = first-of f xs ≡ Some y → (k : ℕ) × (z : A) × (nth xs k ≡ Some z) × (f z ≡ Some y)
+
     go : Later → (o : Option B) → f x ≡ o → orOther o (first-of f xs) ≡ Some y → (k : ℕ) × (z : A) × (nth (x ∷ xs) k ≡ Some z) × (f z ≡ Some y)
     go later None q h = let r = later h in (suc (r .0), r .1, r .2, r .3)
     go later (Some z) q h = (zero, x, refl, q ∙ h)
@@ -35,9 +36,11 @@ first-none {A} {B} f (y ∷ ys) e k x h = go (λ j r g. first-none f ys r j x g)
   where
     Later : Type 0
     Later = (j : ℕ) → first-of f ys ≡ None → nth ys j ≡ Some x → f x ≡ None
+
     at : Later → (j : ℕ) → f y ≡ None → first-of f ys ≡ None → nth (y ∷ ys) j ≡ Some x → f x ≡ None
     at later zero q r g = ap f (sym (some-is g)) ∙ q
     at later (suc j) q r g = later j r g
+
     go : Later → (o : Option B) → f y ≡ o → orOther o (first-of f ys) ≡ None → f x ≡ None
     go later None q r = at later k q r h
     go later (Some z) q r = absurd (none-some (sym r))
@@ -116,6 +119,7 @@ agree-none pile b c ps same none = go (search pile c ps) refl
         at : (w : Bool) → in-patterns i ps ≡ w → cond w (d i) (b i) ≡ Some t
         at true e = x i t (sym (same i e) ∙ h)
         at false e = h
+
     go : (o : Option Binding) → search pile c ps ≡ o → o ≡ None
     go None e = refl
     go (Some d) e =
@@ -131,9 +135,11 @@ not-reached b (var j ∷ ss) ps i r s u h = at (λ q t. not-reached b ss ps i q 
     rest : (w v : Bool) → (w || v) ≡ false → v ≡ false
     rest true v e = absurd (both-ways true e refl)
     rest false v e = e
+
     first : (w v : Bool) → (w || v) ≡ false → w ≡ false
     first true v e = absurd (both-ways true e refl)
     first false v e = refl
+
     at : (reaches b ss ps ≡ false → in-slots i ss ≡ true → ⊥) → (w : Bool) → eqb i j ≡ w → (w || in-slots i ss) ≡ true → ⊥
     at later false e t = later (rest (not (isSome (b j)) && in-patterns j ps) (reaches b ss ps) r) t
     at later true e t =
@@ -148,17 +154,21 @@ module _ (pile : List Atom) (b : Binding) (p : Pattern) (ps : List Pattern) (onc
     where
       g : Grown b c (Fits c p a) (λ j. in-slots j (p .slots))
       g = fit-sound b p a c e
+
       g′ : Grown b c′ (Fits c′ p a′) (λ j. in-slots j (p .slots))
       g′ = fit-sound b p a′ c′ e′
+
       empty : (o : Option ℕ) → isSome o ≡ false → o ≡ None
       empty None q = refl
       empty (Some t) q = absurd (both-ways true q refl)
+
       free : b i ≡ None → (isSome (b i) || in-slots i (p .slots)) ≡ false
       free q = at (in-slots i (p .slots)) refl
         where
           at : (w : Bool) → in-slots i (p .slots) ≡ w → (isSome (b i) || in-slots i (p .slots)) ≡ false
           at true s = absurd (not-reached b (p .slots) ps i once s (ap isSome q) h)
           at false s = (λ k. isSome (q k) || s k)
+
       go : (o : Option ℕ) → b i ≡ o → c i ≡ c′ i
       go None q = empty (c i) (g .exact i ∙ free q) ∙ sym (empty (c′ i) (g′ .exact i ∙ free q))
       go (Some t) q = g .more i t q ∙ sym (g′ .more i t q)

@@ -3,9 +3,9 @@ use mathlib.Core.Path.{_≡_}
 use mathlib.Core.HLevel.{isProp→PathP}
 use native.Mathlib.Bridge.{le-prop}
 use Prim.Native.Nat.{ℕ, _≤_}
-use Rattle.terms.specs.declared.term.Constant.{Constant}
-use Rattle.terms.specs.declared.term.Null.{Null}
-use Rattle.terms.specs.declared.term.Variable.{Variable}
+use Rattle.terms.specs.declared.constant.Constant.{Constant}
+use Rattle.terms.specs.declared.null.Null.{Null}
+use Rattle.terms.specs.declared.variable.Variable.{Variable}
 use Rattle.terms.specs.declared.predicate.Predicate.{Predicate}
 
 pub same-constant : (a b : Constant) → a .number ≡ b .number → a ≡ b

@@ -4,7 +4,7 @@ use Prim.Native.Nat.{ℕ, suc, _+_}
 use Rattle.semantics.specs.Subject as subject
 use Rattle.terms.specs.Rows.{listed}
 use Rattle.terms.specs.declared.atom.Atom.{Atom}
-use Rattle.terms.specs.declared.term.Constant.{Constant}
+use Rattle.terms.specs.declared.constant.Constant.{Constant}
 use Rattle.terms.specs.declared.term.Term.{Term}
 use Rattle.terms.specs.declared.term.Term.the-variants as ground
 use Rattle.terms.specs.declared.term.PatternTerm.{PatternTerm}

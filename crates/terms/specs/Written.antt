@@ -11,7 +11,7 @@ use Rattle.std.specs.declared.result.Result.{Result}
 use Rattle.std.specs.declared.result.Result.the-variants.{Ok, Err}
 use Rattle.terms.specs.Rows.{listed}
 use Rattle.terms.specs.declared.row.Row.{Row}
-use Rattle.terms.specs.declared.term.Constant.{Constant}
+use Rattle.terms.specs.declared.constant.Constant.{Constant}
 use Rattle.terms.specs.declared.term.Term.{Term}
 use Rattle.terms.specs.declared.term.Term.the-variants as ground
 use Rattle.terms.specs.declared.term.PatternTerm.{PatternTerm}

@@ -2,12 +2,12 @@
 ghost use Rattle.std.specs.Orderings.{Decides};
 ghost use Rattle.terms.specs.Rows.{Deciding};
 ghost use mathlib.Core.Path.{_≡_};
+use crate::constant::Constant;
 use crate::predicate::Predicate;
 use crate::predicate::PredicatePartialEq;
 use crate::row::Row;
 use crate::row::RowClone;
 use crate::row::RowPartialEq;
-use crate::term::Constant;
 use crate::term::PatternTerm;
 use crate::term::Term;
 

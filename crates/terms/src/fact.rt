@@ -5,8 +5,8 @@ ghost use mathlib.Core.List.{map};
 ghost use mathlib.Core.Path.{_≡_};
 use crate::atom::Atom;
 use crate::atom::GroundAtom;
+use crate::constant::Constant;
 use crate::row::Row;
-use crate::term::Constant;
 use crate::term::Term;
 
 impl Atom<Constant> {

@@ -37,6 +37,6 @@ pub impl PartialEq<Predicate> for Predicate as PredicatePartialEq {
     ghost equals = { λ x y r. Decides r (x ≡ y) };
 
     fn eq(&self, other: &Predicate) -> bool {
-        self.number == other.number
+        other.number == self.number
     }
 }

@@ -3,13 +3,13 @@ ghost use Rattle.std.specs.declared.option.Option.{Option};
 ghost use Rattle.terms.specs.Rows.{listed};
 ghost use Rattle.terms.specs.Written.{constant-written, term-written, slot-written, Reads, ReadsAt, ReadsAll};
 ghost use Rattle.terms.specs.declared.raw.RawTerm.{RawTerm};
+use crate::constant::Constant;
+use crate::null::Null;
 use crate::raw::RawTerm;
 use crate::row::Row;
-use crate::term::Constant;
-use crate::term::Null;
 use crate::term::PatternTerm;
 use crate::term::Term;
-use crate::term::Variable;
+use crate::variable::Variable;
 
 /// What may stand as a term: of facts, of ground atoms or of patterns.
 pub trait Sort: Copy {

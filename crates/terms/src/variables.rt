@@ -6,7 +6,7 @@ ghost use mathlib.Core.Path.{_≡_};
 use crate::atom::Atom;
 use crate::row::Row;
 use crate::term::PatternTerm;
-use crate::term::Variable;
+use crate::variable::Variable;
 
 impl PatternTerm {
     /// Whether it is the variable.
@@ -29,7 +29,10 @@ impl Atom<PatternTerm> {
             Row::One(a) => a.is(variable),
             Row::Two(a, b) => a.is(variable) || b.is(variable),
             Row::Three(a, b, c) => a.is(variable) || b.is(variable) || c.is(variable),
-            Row::Four(a, b, c, d) => a.is(variable) || b.is(variable) || c.is(variable) || d.is(variable),
+            Row::Four(a, b, c, d) => a.is(variable)
+                || b.is(variable)
+                || c.is(variable)
+                || d.is(variable),
         }
     }
 }

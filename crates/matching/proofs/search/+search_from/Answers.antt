@@ -36,10 +36,10 @@ returns-then-is-some g t c =
     let later = take (length (c .args .patterns .now) - 1) (drop 1 (c .args .patterns .now)) in
     let there : nth (pile xs) (c .loop-place .place) ≡ Some (atom-meant (c .in-Some .atom)) = nth-map atom-meant xs (c .loop-place .place) ∙ ap (mapped atom-meant) (sym (c .in-Some .ensures tt)) in
     let why : (isSome (mapped bound (c .search-from-found .result)) ≡ true) ⊎ (reaches (bound (c .args .binding)) (pattern-meant (c .first-item .result) .slots) (patterns-meant later) ≡ false) =
-        elim (c .then-is-some .came) [
-          then-is-some·by·then-is-some w ↦ inl (mapped-some bound (c .search-from-found .result) ∙ sym (c .is-some .ensures) ∙ w .if-is-some .taken)
-        | then-is-some·by·else-is-some·then-not-again w ↦ inr (sym (c .pattern-reaches-again .ensures) ∙ w .if-not-again .taken)
-        ] in
+    elim (c .then-is-some .came) [
+      | then-is-some·by·then-is-some w ↦ inl (mapped-some bound (c .search-from-found .result) ∙ sym (c .is-some .ensures) ∙ w .if-is-some .taken)
+      | then-is-some·by·else-is-some·then-not-again w ↦ inr (sym (c .pattern-reaches-again .ensures) ∙ w .if-not-again .taken)
+    ] in
     ends (pile xs) (bound (c .args .binding)) (pattern-meant (c .first-item .result)) (patterns-meant later) (c .loop-place .place) (atom-meant (c .in-Some .atom)) there (bound (c .in-Some-fit .more)) (c .in-Some-fit .ensures tt .value) (mapped bound (c .search-from-found .result)) (c .search-from-found .ensures) why
     ∙ c .loop-place .inv
 
@@ -51,11 +51,11 @@ loop-place-again g t c =
     let ps = patterns-meant (take (length (c .args .patterns .now) - 1) (drop 1 (c .args .patterns .now))) in
     let k = c .loop-place .place in
     elim (c .match-get .came) [
-      in-Some·in-Some-fit·else-is-some·else-not-again w ↦
-        goes-on (pile xs) b p ps k (atom-meant (w .in-Some .atom)) (nth-map atom-meant xs k ∙ ap (mapped atom-meant) (sym (w .in-Some .ensures tt))) (bound (w .in-Some-fit .more)) (w .in-Some-fit .ensures tt .value) (mapped bound (w .search-from-found .result)) (w .search-from-found .ensures) (mapped-some bound (w .search-from-found .result) ∙ sym (w .is-some .ensures) ∙ w .if-is-some .left)
-        ∙ c .loop-place .inv
-    | in-Some·in-rest-fit w ↦ no-fit (pile xs) b p ps k (atom-meant (w .in-Some .atom)) (nth-map atom-meant xs k ∙ ap (mapped atom-meant) (sym (w .in-Some .ensures tt))) (w .in-rest-fit .ensures tt .value) ∙ c .loop-place .inv
-    | in-rest-get w ↦ past (λ a. and-then (fit b p a) (λ d. found (pile xs) d ps)) (pile xs) k (nth-map atom-meant xs k ∙ ap (mapped atom-meant) (sym (w .in-rest-get .ensures tt))) ∙ c .loop-place .inv
+      | in-Some·in-Some-fit·else-is-some·else-not-again w ↦
+          goes-on (pile xs) b p ps k (atom-meant (w .in-Some .atom)) (nth-map atom-meant xs k ∙ ap (mapped atom-meant) (sym (w .in-Some .ensures tt))) (bound (w .in-Some-fit .more)) (w .in-Some-fit .ensures tt .value) (mapped bound (w .search-from-found .result)) (w .search-from-found .ensures) (mapped-some bound (w .search-from-found .result) ∙ sym (w .is-some .ensures) ∙ w .if-is-some .left)
+          ∙ c .loop-place .inv
+      | in-Some·in-rest-fit w ↦ no-fit (pile xs) b p ps k (atom-meant (w .in-Some .atom)) (nth-map atom-meant xs k ∙ ap (mapped atom-meant) (sym (w .in-Some .ensures tt))) (w .in-rest-fit .ensures tt .value) ∙ c .loop-place .inv
+      | in-rest-get w ↦ past (λ a. and-then (fit b p a) (λ d. found (pile xs) d ps)) (pile xs) k (nth-map atom-meant xs k ∙ ap (mapped atom-meant) (sym (w .in-rest-get .ensures tt))) ∙ c .loop-place .inv
     ]
 
 pub returns : need.returns

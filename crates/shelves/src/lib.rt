@@ -1,0 +1,3 @@
+//! Stocks.
+pub mod placed;
+pub mod stock;
