@@ -15,9 +15,9 @@ use Rattle.std.proofs.shelf.Maps.{nth-getD}
 use Rattle.std.proofs.shelf.Results.{err-from-errBy}
 use Rattle.semantics.specs.Subject as subject
 use Rattle.semantics.proofs.Placing.{Sofar, one-more, stops}
-use Rattle.terms.specs.Meaning.{pattern-meant}
-use Rattle.terms.specs.declared.atom.Atom.{Atom}
-use Rattle.terms.specs.declared.refusal.Refusal.{Refusal}
+use Rattle.atoms.specs.Meaning.{pattern-meant}
+use Rattle.atoms.specs.declared.atom.Atom.{Atom}
+use Rattle.refusals.specs.declared.refusal.Refusal.{Refusal}
 use Rattle.terms.specs.declared.term.PatternTerm.{PatternTerm}
 use Rattle.terms.specs.declared.term.Term.{Term}
 use Rattle.matching.specs.Bindings.{bound-or}

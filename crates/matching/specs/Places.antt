@@ -10,8 +10,8 @@ use Rattle.std.specs.declared.result.Result.{Result}
 use Rattle.std.specs.declared.result.Result.the-variants.{Ok, Err}
 use Rattle.semantics.specs.Computed.{fit}
 use Rattle.semantics.specs.Subject.{Pattern, Atom, Binding, AtPlaces, Exactly}
-use Rattle.terms.specs.Refusals.{Is}
-use Rattle.terms.specs.declared.refusal.Refusal.{Refusal}
+use Rattle.refusals.specs.Refusals.{Is}
+use Rattle.refusals.specs.declared.refusal.Refusal.{Refusal}
 
 module _ (pile : List Atom) (ps : List Pattern) (ks : List ℕ) where
   -- one binding makes each of the first i patterns fit the atom at its place

@@ -1,8 +1,8 @@
 -- Lists of the code's atoms and patterns, as the subject has them.
 use mathlib.Core.List.{List, map}
 use Rattle.semantics.specs.Subject as subject
-use Rattle.terms.specs.Meaning.{atom-meant, pattern-meant}
-use Rattle.terms.specs.declared.atom.Atom.{Atom}
+use Rattle.atoms.specs.Meaning.{atom-meant, pattern-meant}
+use Rattle.atoms.specs.declared.atom.Atom.{Atom}
 use Rattle.terms.specs.declared.term.PatternTerm.{PatternTerm}
 use Rattle.terms.specs.declared.term.Term.{Term}
 

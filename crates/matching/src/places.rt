@@ -2,13 +2,13 @@
 ghost use Rattle.matching.specs.Bindings.{bound, bound-or};
 ghost use Rattle.matching.specs.Places.{FittedAt, Placed};
 ghost use Rattle.matching.specs.Searches.{pile, patterns-meant};
-ghost use Rattle.terms.specs.Meaning.{pattern-meant};
+ghost use Rattle.atoms.specs.Meaning.{pattern-meant};
 use crate::binding::Binding;
 use crate::binding::unbound;
 use crate::fit::fit;
+use atoms::atom::Pattern;
+use refusals::refusal::Refusal;
 use shelves::stock::Stock;
-use terms::atom::Pattern;
-use terms::refusal::Refusal;
 
 /// The binding, extended so that the pattern of that index fits the atom at the place.
 fn fit_at<S: Stock>(

@@ -2,12 +2,12 @@
 ghost use Rattle.matching.specs.Bindings.{bound};
 ghost use Rattle.semantics.specs.Subject.{Fittable};
 ghost use Rattle.std.specs.Orderings.{Decides};
-ghost use Rattle.terms.specs.Meaning.{atom-meant, pattern-meant};
+ghost use Rattle.atoms.specs.Meaning.{atom-meant, pattern-meant};
 ghost use mathlib.Core.Path.{_≡_};
 use crate::binding::Binding;
 use crate::fit::fit;
-use terms::atom::GroundAtom;
-use terms::atom::Pattern;
+use atoms::atom::GroundAtom;
+use atoms::atom::Pattern;
 use terms::predicate::PredicatePartialEq;
 
 /// Puts the binding back when it goes.

@@ -4,7 +4,7 @@ use mathlib.Core.List.{List, [], _∷_, _++_}
 use Prim.Native.Nat.{ℕ, _+_, _<_}
 use lib.ListN.{length}
 use Rattle.std.specs.shelf.Lists.{Has}
-use Rattle.terms.specs.declared.atom.Atom.{Atom}
+use Rattle.atoms.specs.declared.atom.Atom.{Atom}
 use Rattle.terms.specs.declared.term.Term.{Term}
 use Rattle.shelves.specs.declared.placed.Placed.{Placed}
 use Rattle.shelves.specs.declared.placed.Placed.the-variants.{Already, Full, At}

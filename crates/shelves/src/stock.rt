@@ -6,12 +6,12 @@ ghost use lib.ListN.{length};
 ghost use Rattle.std.specs.Orderings.{Decides};
 ghost use Rattle.std.specs.shelf.Lists.{Has};
 ghost use Rattle.std.specs.shelf.Maps.{nth};
-ghost use Rattle.terms.specs.declared.atom.Atom.{Atom};
+ghost use Rattle.atoms.specs.declared.atom.Atom.{Atom};
 ghost use Rattle.terms.specs.declared.term.Term.{Term};
 ghost use Rattle.shelves.specs.Puts.{Puts};
 ghost use Rattle.shelves.specs.declared.placed.Placed.the-variants.{Full};
 use crate::placed::Placed;
-use terms::atom::GroundAtom;
+use atoms::atom::GroundAtom;
 
 /// A list of at most 1,000,000 ground atoms.
 pub trait Stock {

@@ -1,9 +1,6 @@
--- What the code's terms and atoms mean to the subject.
-use mathlib.Core.List.{List, map}
+-- What the code's terms mean to the subject.
 use Prim.Native.Nat.{ℕ, suc, _+_}
 use Rattle.semantics.specs.Subject as subject
-use Rattle.terms.specs.Rows.{listed}
-use Rattle.terms.specs.declared.atom.Atom.{Atom}
 use Rattle.terms.specs.declared.constant.Constant.{Constant}
 use Rattle.terms.specs.declared.term.Term.{Term}
 use Rattle.terms.specs.declared.term.Term.the-variants as ground
@@ -22,12 +19,3 @@ constant-meant c = c .number
 abbrev pub slot-meant : PatternTerm → subject.Slot
 slot-meant (slot.Constant c) = subject.con (c .number)
 slot-meant (slot.Variable v) = subject.var (suc (v .index))
-
-abbrev pub atom-meant : Atom Term → subject.Atom
-atom-meant a = record { pred = a .predicate .number; terms = map term-meant (listed (a .terms)) }
-
-abbrev pub fact-meant : Atom Constant → subject.Atom
-fact-meant a = record { pred = a .predicate .number; terms = map constant-meant (listed (a .terms)) }
-
-abbrev pub pattern-meant : Atom PatternTerm → subject.Pattern
-pattern-meant p = record { pred = p .predicate .number; slots = map slot-meant (listed (p .terms)) }

@@ -2,6 +2,7 @@
 ghost use Prim.Native.Nat.{_≤_};
 ghost use Rattle.std.specs.Options.{Cases};
 ghost use Rattle.std.specs.Orderings.{Decides};
+ghost use lib.Dec.{eqb};
 ghost use mathlib.Core.Path.{_≡_};
 
 /// A constant: a number from 1 to 999,999.
@@ -29,12 +30,19 @@ impl Constant {
     {
         self.number
     }
+
+    /// Whether the numbers are the same.
+    fn agrees(self, other: Constant) -> bool
+        ensures { λ r. ⌜ r ≡ eqb (other .number) (self .number) ⌝ }
+    {
+        other.number == self.number
+    }
 }
 
 pub impl PartialEq<Constant> for Constant as ConstantPartialEq {
     ghost equals = { λ x y r. Decides r (x ≡ y) };
 
     fn eq(&self, other: &Constant) -> bool {
-        other.number == self.number
+        self.agrees(*other)
     }
 }

@@ -1,13 +1,7 @@
-//! Constants, nulls, variables, and what is made of them: atoms, facts and patterns, and atoms as a caller writes them.
-pub mod atom;
+//! Constants, nulls and variables, and the terms that are made of them.
 pub mod constant;
-pub mod fact;
 pub mod null;
 pub mod predicate;
-pub mod raw;
-pub mod refusal;
-pub mod row;
-pub mod sort;
+pub mod slot;
 pub mod term;
 pub mod variable;
-pub mod variables;

@@ -2,6 +2,7 @@
 ghost use Prim.Native.Nat.{_≤_};
 ghost use Rattle.std.specs.Options.{Cases};
 ghost use Rattle.std.specs.Orderings.{Decides};
+ghost use lib.Dec.{eqb};
 ghost use mathlib.Core.Path.{_≡_};
 
 /// A null: with a number k from 0 to 999,999 it is the thing numbered 1,000,000 + k.
@@ -28,12 +29,19 @@ impl Null {
     {
         self.number
     }
+
+    /// Whether the numbers are the same.
+    fn agrees(self, other: Null) -> bool
+        ensures { λ r. ⌜ r ≡ eqb (other .number) (self .number) ⌝ }
+    {
+        other.number == self.number
+    }
 }
 
 pub impl PartialEq<Null> for Null as NullPartialEq {
     ghost equals = { λ x y r. Decides r (x ≡ y) };
 
     fn eq(&self, other: &Null) -> bool {
-        other.number == self.number
+        self.agrees(*other)
     }
 }

@@ -2,6 +2,7 @@
 ghost use Prim.Native.Nat.{_≤_};
 ghost use Rattle.std.specs.Options.{Cases};
 ghost use Rattle.std.specs.Orderings.{Decides};
+ghost use lib.Dec.{eqb};
 ghost use mathlib.Core.Path.{_≡_};
 
 /// A predicate: a number from 1 to 64.
@@ -31,12 +32,19 @@ impl Predicate {
     {
         self.number as usize
     }
+
+    /// Whether the numbers are the same.
+    fn agrees(self, other: Predicate) -> bool
+        ensures { λ r. ⌜ r ≡ eqb (other .number) (self .number) ⌝ }
+    {
+        other.number == self.number
+    }
 }
 
 pub impl PartialEq<Predicate> for Predicate as PredicatePartialEq {
     ghost equals = { λ x y r. Decides r (x ≡ y) };
 
     fn eq(&self, other: &Predicate) -> bool {
-        other.number == self.number
+        self.agrees(*other)
     }
 }

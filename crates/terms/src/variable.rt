@@ -2,6 +2,7 @@
 ghost use Prim.Native.Nat.{_≤_, _+_};
 ghost use Rattle.std.specs.Options.{Cases};
 ghost use Rattle.std.specs.Orderings.{Decides};
+ghost use lib.Dec.{eqb};
 ghost use mathlib.Core.Path.{_≡_};
 
 /// One of the variables v1 to v8, by its index from 0.
@@ -39,12 +40,19 @@ impl Variable {
     {
         self.index as usize
     }
+
+    /// Whether the numbers are the same.
+    fn agrees(self, other: Variable) -> bool
+        ensures { λ r. ⌜ r ≡ eqb (other .index) (self .index) ⌝ }
+    {
+        other.index == self.index
+    }
 }
 
 pub impl PartialEq<Variable> for Variable as VariablePartialEq {
     ghost equals = { λ x y r. Decides r (x ≡ y) };
 
     fn eq(&self, other: &Variable) -> bool {
-        other.index == self.index
+        self.agrees(*other)
     }
 }

@@ -6,7 +6,7 @@ use Rattle.std.proofs.shelf.Tests.{eq-eqb, ne-eqb, false≢true}
 use Rattle.semantics.specs.Subject.{Binding, Pattern, Atom, Fitted}
 use Rattle.semantics.specs.Computed.{fit, fit-slots}
 use Rattle.semantics.proofs.Fitting.{fit-fitted}
-use Rattle.terms.specs.Meaning.{atom-meant, pattern-meant}
+use Rattle.atoms.specs.Meaning.{atom-meant, pattern-meant}
 use Rattle.terms.specs.declared.predicate.Predicate.{Predicate}
 use Rattle.terms.proofs.Same.{same-predicate}
 use Rattle.matching.specs.Bindings.{bound}

@@ -2,7 +2,7 @@ use mathlib.Core.Path.{sym, subst}
 use Rattle.std.specs.Options.{mapped}
 use Rattle.std.specs.declared.option.Option.the-variants.{None}
 use Rattle.semantics.specs.Subject.{Instance}
-use Rattle.terms.specs.Meaning.{atom-meant, pattern-meant}
+use Rattle.atoms.specs.Meaning.{atom-meant, pattern-meant}
 use Rattle.matching.specs.Bindings.{bound}
 use Rattle.matching.proofs.instance.bound_atom.Needs as need
 

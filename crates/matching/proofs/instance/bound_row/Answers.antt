@@ -1,7 +1,7 @@
 use mathlib.Core.Path.{refl, ap}
 use mathlib.Core.List.{map}
 use Rattle.terms.specs.Meaning.{slot-meant}
-use Rattle.terms.specs.Rows.{listed}
+use Rattle.atoms.specs.Rows.{listed}
 use Rattle.matching.specs.Bindings.{bound}
 use Rattle.matching.proofs.Instanced.{stops}
 use Rattle.matching.proofs.instance.bound_row.Needs as need

@@ -4,8 +4,8 @@ use Prim.Native.Nat.{ℕ}
 use Rattle.std.specs.Finite.{nth}
 use Rattle.std.specs.Options.{mapped}
 use Rattle.std.specs.declared.option.Option.{Option}
-use Rattle.terms.specs.Meaning.{atom-meant}
-use Rattle.terms.specs.declared.atom.Atom.{Atom}
+use Rattle.atoms.specs.Meaning.{atom-meant}
+use Rattle.atoms.specs.declared.atom.Atom.{Atom}
 use Rattle.terms.specs.declared.term.Term.{Term}
 use Rattle.matching.specs.Places.{place-past, place-unfit}
 use Rattle.matching.specs.Searches.{pile}

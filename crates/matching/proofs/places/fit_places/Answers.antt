@@ -4,7 +4,7 @@ use native.Mathlib.Omega.{arith}
 use lib.ListN.{length}
 use Rattle.std.proofs.shelf.Lists.{length-map}
 use Rattle.semantics.proofs.Placing.{all-placed}
-use Rattle.terms.specs.Meaning.{pattern-meant}
+use Rattle.atoms.specs.Meaning.{pattern-meant}
 use Rattle.matching.specs.Bindings.{bound}
 use Rattle.matching.specs.Places.{uneven}
 use Rattle.matching.specs.Searches.{pile, patterns-meant}

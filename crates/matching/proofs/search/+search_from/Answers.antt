@@ -13,7 +13,7 @@ use Rattle.std.specs.declared.option.Option.the-variants.{Some, None}
 use Rattle.std.proofs.shelf.Lists.{length-map}
 use Rattle.semantics.specs.Subject as subject
 use Rattle.semantics.specs.Computed.{search as found, fit, and-then, reaches}
-use Rattle.terms.specs.Meaning.{atom-meant, pattern-meant}
+use Rattle.atoms.specs.Meaning.{atom-meant, pattern-meant}
 use Rattle.matching.specs.Bindings.{bound}
 use Rattle.matching.specs.Searches.{pile, patterns-meant}
 use Rattle.matching.proofs.Rounds.{tried, past, over, nth-map, split, goes-on, ends, no-fit, none-long, mapped-some}

@@ -1,7 +1,7 @@
 use mathlib.Core.Path.{_≡_}
 use lib.ListN.{drop, length}
 use Rattle.semantics.specs.Computed.{search}
-use Rattle.terms.specs.Meaning.{pattern-meant}
+use Rattle.atoms.specs.Meaning.{pattern-meant}
 use Rattle.matching.specs.Bindings.{bound}
 use Rattle.matching.specs.Searches.{pile, patterns-meant}
 use Rattle.matching.proofs.Rounds.{tried}

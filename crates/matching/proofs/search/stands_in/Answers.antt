@@ -5,8 +5,8 @@ use Prim.Native.Nat.{ℕ, suc, _<_, _+_}
 use lib.ListN.{length, getD, drop}
 use Rattle.std.proofs.shelf.Lists.{at-drop-more, at-drop-all}
 use Rattle.semantics.specs.Subject.{in-patterns, in-slots}
-use Rattle.terms.specs.Meaning.{pattern-meant}
-use Rattle.terms.specs.declared.atom.Atom.{Atom}
+use Rattle.atoms.specs.Meaning.{pattern-meant}
+use Rattle.atoms.specs.declared.atom.Atom.{Atom}
 use Rattle.terms.specs.declared.term.PatternTerm.{PatternTerm}
 use Rattle.matching.specs.Searches.{patterns-meant}
 use Rattle.matching.proofs.search.stands_in.Needs as need

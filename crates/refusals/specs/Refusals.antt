@@ -1,8 +1,8 @@
 -- The number and the two figures of each refusal, 0 where it has none.
 use Prim.Native.Nat.{ℕ}
 use mathlib.Core.Path.{_≡_}
-use Rattle.terms.specs.declared.refusal.Refusal.{Refusal}
-use Rattle.terms.specs.declared.refusal.Refusal.the-variants.{ArityOutOfRange, NoPredicateLeft, UndeclaredPredicate, WrongNumberOfTerms, TermNotAllowed, NoGuard, WrongNumberOfPatterns, TableFull, CheckOpen, ShelfFull, NoSuchNumber, PlacePastPile, AtomDoesNotFit, SideAtomMissing, OverlayFull, WrongNumberOfPlaces, RuleNotSatisfied, ConstraintMatches, QueryMatches, PileTooLarge, AlreadyOpen, ForeignSlip, UnfitShelf, BrokenFrame, BrokenLine}
+use Rattle.refusals.specs.declared.refusal.Refusal.{Refusal}
+use Rattle.refusals.specs.declared.refusal.Refusal.the-variants.{ArityOutOfRange, NoPredicateLeft, UndeclaredPredicate, WrongNumberOfTerms, TermNotAllowed, NoGuard, WrongNumberOfPatterns, TableFull, CheckOpen, ShelfFull, NoSuchNumber, PlacePastPile, AtomDoesNotFit, SideAtomMissing, OverlayFull, WrongNumberOfPlaces, RuleNotSatisfied, ConstraintMatches, QueryMatches, PileTooLarge, AlreadyOpen, ForeignSlip, UnfitShelf, BrokenFrame, BrokenLine}
 
 abbrev pub number-of : Refusal → ℕ
 number-of (ArityOutOfRange arity) = 1

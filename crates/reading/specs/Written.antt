@@ -9,15 +9,15 @@ use Rattle.std.specs.declared.option.Option.{Option}
 use Rattle.std.specs.declared.option.Option.the-variants.{Some, None}
 use Rattle.std.specs.declared.result.Result.{Result}
 use Rattle.std.specs.declared.result.Result.the-variants.{Ok, Err}
-use Rattle.terms.specs.Rows.{listed}
-use Rattle.terms.specs.declared.row.Row.{Row}
+use Rattle.atoms.specs.Rows.{listed}
+use Rattle.atoms.specs.declared.row.Row.{Row}
 use Rattle.terms.specs.declared.constant.Constant.{Constant}
 use Rattle.terms.specs.declared.term.Term.{Term}
 use Rattle.terms.specs.declared.term.Term.the-variants as ground
 use Rattle.terms.specs.declared.term.PatternTerm.{PatternTerm}
 use Rattle.terms.specs.declared.term.PatternTerm.the-variants as slot
-use Rattle.terms.specs.declared.raw.RawTerm.{RawTerm}
-use Rattle.terms.specs.declared.raw.RawTerm.the-variants as raw
+use Rattle.reading.specs.declared.raw.RawTerm.{RawTerm}
+use Rattle.reading.specs.declared.raw.RawTerm.the-variants as raw
 
 -- a constant by its number, null k by k, variable v1 by 1
 abbrev pub constant-written : Constant → RawTerm

@@ -1,9 +1,9 @@
 //! Atoms as a caller writes them, unchecked.
 ghost use Prim.Native.Nat.{_≤_, min};
-ghost use Rattle.terms.specs.Rows.{listed-or-none};
+ghost use Rattle.atoms.specs.Rows.{listed-or-none};
 ghost use lib.ListN.{length, take};
 ghost use mathlib.Core.Path.{_≡_};
-use crate::row::Row;
+use atoms::row::Row;
 
 /// A term of any sort, with any number.
 #[derive(Clone, Copy)]

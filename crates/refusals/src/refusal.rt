@@ -1,9 +1,9 @@
 //! Why a call was refused.
-ghost use Rattle.terms.specs.Refusals.{number-of, first-of, second-of};
+ghost use Rattle.refusals.specs.Refusals.{number-of, first-of, second-of};
 ghost use mathlib.Core.Path.{_≡_};
 
 /// A refusal, with the figures that go with it. Atom indices count from 0, the head last.
-#[derive(Clone, Copy, PartialEq, Eq, Debug)]
+#[derive(Clone, Copy, Debug)]
 pub enum Refusal {
     /// The arity is not 1 to 4.
     ArityOutOfRange { arity: usize },

@@ -1,13 +1,13 @@
 //! Facts as ground atoms.
-ghost use Rattle.terms.specs.Rows.{listed};
+ghost use Rattle.atoms.specs.Rows.{listed};
 ghost use Rattle.terms.specs.declared.term.Term.the-variants.{Constant as fixed};
 ghost use mathlib.Core.List.{map};
 ghost use mathlib.Core.Path.{_≡_};
 use crate::atom::Atom;
 use crate::atom::GroundAtom;
-use crate::constant::Constant;
 use crate::row::Row;
-use crate::term::Term;
+use terms::constant::Constant;
+use terms::term::Term;
 
 impl Atom<Constant> {
     /// The fact as a ground atom.

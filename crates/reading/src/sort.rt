@@ -1,15 +1,15 @@
 //! Reading raw terms as terms of a sort.
 ghost use Rattle.std.specs.declared.option.Option.{Option};
-ghost use Rattle.terms.specs.Rows.{listed};
-ghost use Rattle.terms.specs.Written.{constant-written, term-written, slot-written, Reads, ReadsAt, ReadsAll};
-ghost use Rattle.terms.specs.declared.raw.RawTerm.{RawTerm};
-use crate::constant::Constant;
-use crate::null::Null;
+ghost use Rattle.atoms.specs.Rows.{listed};
+ghost use Rattle.reading.specs.Written.{constant-written, term-written, slot-written, Reads, ReadsAt, ReadsAll};
+ghost use Rattle.reading.specs.declared.raw.RawTerm.{RawTerm};
 use crate::raw::RawTerm;
-use crate::row::Row;
-use crate::term::PatternTerm;
-use crate::term::Term;
-use crate::variable::Variable;
+use atoms::row::Row;
+use terms::constant::Constant;
+use terms::null::Null;
+use terms::term::PatternTerm;
+use terms::term::Term;
+use terms::variable::Variable;
 
 /// What may stand as a term: of facts, of ground atoms or of patterns.
 pub trait Sort: Copy {

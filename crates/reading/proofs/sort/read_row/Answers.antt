@@ -1,7 +1,7 @@
 use mathlib.Core.Path.{refl, ap}
-use Rattle.terms.specs.Rows.{listed}
-use Rattle.terms.proofs.Rowwise.{stops}
-use Rattle.terms.proofs.sort.read_row.Needs as need
+use Rattle.atoms.specs.Rows.{listed}
+use Rattle.reading.proofs.Rowwise.{stops}
+use Rattle.reading.proofs.sort.read_row.Needs as need
 
 pub returns-in-Break-read-at : need.returns-in-Break-read-at
 returns-in-Break-read-at g c = stops (g .T·Sort .written) _ _ 0 _ _ _ (c .from-residual .ensures .1) (c .in-Break-read-at .ensures tt) (ap listed (c .in-One .is)) refl tt

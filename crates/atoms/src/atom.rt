@@ -1,15 +1,15 @@
 //! A predicate with its terms.
 ghost use Rattle.std.specs.Orderings.{Decides};
-ghost use Rattle.terms.specs.Rows.{Deciding};
+ghost use Rattle.atoms.specs.Rows.{Deciding};
 ghost use mathlib.Core.Path.{_≡_};
-use crate::constant::Constant;
-use crate::predicate::Predicate;
-use crate::predicate::PredicatePartialEq;
 use crate::row::Row;
 use crate::row::RowClone;
 use crate::row::RowPartialEq;
-use crate::term::PatternTerm;
-use crate::term::Term;
+use terms::constant::Constant;
+use terms::predicate::Predicate;
+use terms::predicate::PredicatePartialEq;
+use terms::term::PatternTerm;
+use terms::term::Term;
 
 /// A predicate with one to four terms of one kind.
 #[derive(Clone, Copy)]

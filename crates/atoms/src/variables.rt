@@ -1,24 +1,12 @@
 //! Which variables stand in a pattern.
 ghost use Prim.Native.Nat.{suc};
-ghost use Rattle.semantics.specs.Subject.{is-var, in-slots};
-ghost use Rattle.terms.specs.Meaning.{slot-meant, pattern-meant};
+ghost use Rattle.semantics.specs.Subject.{in-slots};
+ghost use Rattle.atoms.specs.Meaning.{pattern-meant};
 ghost use mathlib.Core.Path.{_≡_};
 use crate::atom::Atom;
 use crate::row::Row;
-use crate::term::PatternTerm;
-use crate::variable::Variable;
-
-impl PatternTerm {
-    /// Whether it is the variable.
-    pub fn is(self, variable: Variable) -> bool
-        ensures { λ r. ⌜ r ≡ is-var (suc (variable .index)) (slot-meant self) ⌝ }
-    {
-        match self {
-            PatternTerm::Constant(_) => false,
-            PatternTerm::Variable(other) => variable.index() == other.index(),
-        }
-    }
-}
+use terms::term::PatternTerm;
+use terms::variable::Variable;
 
 impl Atom<PatternTerm> {
     /// Whether the variable stands in the pattern.

@@ -1,0 +1,3 @@
+//! Atoms as a caller writes them, and how their terms are read.
+pub mod raw;
+pub mod sort;

@@ -1,0 +1,2 @@
+//! Why a call was refused.
+pub mod refusal;
