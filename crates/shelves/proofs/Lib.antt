@@ -1,0 +1,4 @@
+pub mod Appends
+pub mod Firsts
+pub mod Fronts
+pub mod Stacks

@@ -1,1 +1,5 @@
+pub mod Blank
+pub mod Flat
 pub mod Puts
+pub mod Rows
+pub mod Stacked

@@ -1,4 +1,4 @@
--- What a shelf does with an atom. Assumes nothing.
+-- What a shelf does with an atom.
 use mathlib.Core.Path.{_≡_}
 use mathlib.Core.List.{List, [], _∷_, _++_}
 use Prim.Native.Nat.{ℕ, _+_, _<_}
