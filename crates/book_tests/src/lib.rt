@@ -1,0 +1,3 @@
+//! What drafts and books answer on examples.
+#[cfg(test)]
+mod tests;

@@ -1,0 +1,3 @@
+pub mod Arities
+pub mod Bodies
+pub mod Checked

@@ -1,0 +1,2 @@
+//! Rules, each with its guard.
+pub mod rule;

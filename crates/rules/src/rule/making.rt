@@ -1,0 +1,62 @@
+//! Making rules and reading them.
+ghost use Prim.Native.Nat.{ℕ};
+ghost use Rattle.declarations.specs.Arities.{arities-of};
+ghost use Rattle.declarations.specs.Bodies.{patterns-meant, patterns-listed};
+ghost use Rattle.rules.specs.Rules.{MakesRule, RuleChecked};
+ghost use Rattle.semantics.specs.Subject.{Guards};
+ghost use Rattle.std.specs.Finite.{nth};
+ghost use Rattle.std.specs.declared.option.Option.the-variants.{Some};
+ghost use mathlib.Core.Path.{_≡_};
+use declarations::declarations::Declarations;
+use declarations::patterns::Patterns;
+use crate::rule::Rule;
+use crate::rule::covering::find_guard;
+use atoms::atom::Pattern;
+use reading::raw::RawAtom;
+use refusals::refusal::Refusal;
+use reading::sort::PatternTermSort;
+
+impl Rule {
+    /// The rule of this body and head, if the body has a guard.
+    pub fn new(body: Patterns, head: Pattern) -> Option<Rule>
+        ensures { λ r. ⌜ MakesRule body head r ⌝ }
+    {
+        let guard = find_guard(&body)?;
+        Some(Rule { body, guard, head })
+    }
+
+    pub fn body(&self) -> &Patterns
+        ensures { λ r. ⌜ now r ≡ now (self .entry) .body ⌝ }
+    {
+        &self.body
+    }
+
+    pub fn head(&self) -> &Pattern
+        ensures { λ r. ⌜ now r ≡ now (self .entry) .head ⌝ }
+    {
+        &self.head
+    }
+
+    /// The index of the guard in the body.
+    pub fn guard(&self) -> usize
+        ensures value { λ r. ⌜ r ≡ now (self .entry) .guard ⌝ }
+        ensures guards { λ r. ⌜ Guards (patterns-meant (now (self .entry) .body)) r ⌝ }
+    {
+        self.guard
+    }
+
+    pub fn guard_pattern(&self) -> &Pattern
+        ensures { λ r. ⌜ nth (patterns-listed (now (self .entry) .body)) (now (self .entry) .guard) ≡ Some (now r) ⌝ }
+    {
+        &self.body.as_slice()[self.guard]
+    }
+}
+
+/// The rule that is written. The head is checked last.
+pub fn check_rule(declarations: &Declarations, body: &[RawAtom], head: &RawAtom) -> Result<Rule, Refusal>
+    ensures { λ r. ⌜ RuleChecked (arities-of (now (declarations .entry))) (now (body .entry)) (now (head .entry)) r ⌝ }
+{
+    let patterns = declarations.check_patterns(body)?;
+    let pattern = declarations.check(body.len(), head)?;
+    Rule::new(patterns, pattern).ok_or(Refusal::NoGuard)
+}
