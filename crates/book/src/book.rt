@@ -1,13 +1,19 @@
 //! What is written down for good.
-ghost use Rattle.declarations.specs.Arities.{numbered};
+ghost use Rattle.declarations.specs.Arities.{arity-value, arities-of, numbered};
+ghost use Rattle.declarations.specs.Checked.{Checked};
 ghost use Rattle.book.specs.Tables.{entries};
 ghost use Rattle.std.specs.Options.{mapped};
 ghost use lib.ListN.{length};
 ghost use mathlib.Core.Path.{_≡_};
+use crate::table::Table;
+use atoms::atom::Atom;
+use declarations::arity::Arity;
 use declarations::declarations::Declarations;
 use declarations::patterns::Patterns;
+use reading::raw::RawAtom;
+use reading::sort::Sort;
+use refusals::refusal::Refusal;
 use rules::rule::Rule;
-use crate::table::Table;
 
 /// The declared predicates with the rules, constraints and queries over them. It never changes.
 #[derive(Drop)]
@@ -38,10 +44,18 @@ impl Book {
         }
     }
 
-    pub fn declarations(&self) -> &Declarations
-        ensures { λ r. ⌜ now r ≡ now (self .entry) .declarations ⌝ }
+    /// The arity of the predicate of that number, if it is declared.
+    pub fn arity(&self, predicate: usize) -> Option<Arity>
+        ensures { λ r. ⌜ mapped arity-value r ≡ numbered (arities-of (now (self .entry) .declarations)) predicate ⌝ }
     {
-        &self.declarations
+        self.declarations.arity(predicate)
+    }
+
+    /// The atom that is written, whose index among the atoms of a call is `index`.
+    pub fn check<T: Sort>(&self, index: usize, raw: &RawAtom) -> Result<Atom<T>, Refusal>
+        ensures { λ r. ⌜ Checked (T·Sort .written) (arities-of (now (self .entry) .declarations)) index (now (raw .entry)) r ⌝ }
+    {
+        self.declarations.check(index, raw)
     }
 
     /// The rule of that number, from 1.

@@ -1,8 +1,8 @@
 //! What is being written down.
+use crate::table::Table;
 use declarations::declarations::Declarations;
 use declarations::patterns::Patterns;
 use rules::rule::Rule;
-use crate::table::Table;
 
 mod making;
 

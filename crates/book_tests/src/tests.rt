@@ -1,10 +1,10 @@
 //! Shorthands, and the tests that use them.
 use book::draft::Draft;
-use std::alloc::Global;
-use std::test::*;
 use reading::raw::RawAtom;
 use reading::raw::RawTerm;
 use refusals::refusal::Refusal;
+use std::alloc::Global;
+use std::test::*;
 
 mod guards;
 mod limits;

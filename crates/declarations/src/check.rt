@@ -3,11 +3,11 @@ ghost use Rattle.declarations.specs.Arities.{arities-of};
 ghost use Rattle.declarations.specs.Checked.{Checked};
 use crate::declarations::Declarations;
 use atoms::atom::Atom;
-use terms::predicate::Predicate;
 use reading::raw::RawAtom;
-use refusals::refusal::Refusal;
 use reading::sort::Sort;
 use reading::sort::read_row;
+use refusals::refusal::Refusal;
+use terms::predicate::Predicate;
 
 impl Declarations {
     /// The atom that is written, whose index among the atoms of a call is `index`.

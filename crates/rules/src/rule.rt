@@ -3,8 +3,8 @@ ghost use Rattle.declarations.specs.Bodies.{patterns-meant};
 ghost use Rattle.rules.specs.Covering.{guard-is};
 ghost use mathlib.Core.Bool.{true};
 ghost use mathlib.Core.Path.{_≡_};
-use declarations::patterns::Patterns;
 use atoms::atom::Pattern;
+use declarations::patterns::Patterns;
 
 mod covering;
 mod making;

@@ -7,16 +7,16 @@ ghost use Rattle.book.specs.Tables.{Full};
 ghost use Rattle.std.specs.Vec.{made};
 ghost use mathlib.Core.Path.{_≡_};
 use crate::book::Book;
-use declarations::declarations::Declarations;
 use crate::draft::Draft;
-use declarations::patterns::Patterns;
-use rules::rule::Rule;
-use rules::rule::check_rule;
 use crate::table::Table;
-use std::alloc::AllocError;
-use std::alloc::Global;
+use declarations::declarations::Declarations;
+use declarations::patterns::Patterns;
 use reading::raw::RawAtom;
 use refusals::refusal::Refusal;
+use rules::rule::Rule;
+use rules::rule::check_rule;
+use std::alloc::AllocError;
+use std::alloc::Global;
 
 impl Draft {
     /// An empty draft. All its memory is reserved here, so that no later call fails for want of it.

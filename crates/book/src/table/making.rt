@@ -9,9 +9,9 @@ ghost use lib.ListN.{length};
 ghost use mathlib.Core.List.{[]};
 ghost use mathlib.Core.Path.{_≡_};
 use crate::table::Table;
+use refusals::refusal::Refusal;
 use std::alloc::AllocError;
 use std::alloc::Global;
-use refusals::refusal::Refusal;
 
 impl<T: Drop, const N: usize> Table<T, N> {
     /// An empty table.

@@ -16,7 +16,7 @@ fn guard_has_every_variable(rt: LibcRuntime) -> Result<(), Fail> {
     let rule = book.rule(1).ok_or("there is no rule 1")?;
     check_eq(rule.guard(), 1)?;
     check_eq(rule.guard_pattern().predicate.number(), 2)?;
-    check_eq(rule.body().as_slice().len(), 3)?;
+    check_eq(rule.body().len(), 3)?;
     check_eq(rule.head().terms.len(), 2)
 }
 

@@ -15,8 +15,8 @@ fn predicates_run_out(rt: LibcRuntime) -> Result<(), Fail> {
     check_eq(answer(draft.declare(1)), (2, 0, 0))?;
     check_eq(answer(draft.declare(9)), (2, 0, 0))?;
     let book = draft.seal();
-    check(book.declarations().arity(64).is_some())?;
-    check(book.declarations().arity(65).is_none())
+    check(book.arity(64).is_some())?;
+    check(book.arity(65).is_none())
 }
 
 #[test]

@@ -5,9 +5,9 @@ use crate::tests::one;
 use crate::tests::start;
 use crate::tests::two;
 use crate::tests::v;
-use std::test::*;
 use reading::raw::RawAtom;
 use reading::raw::RawTerm;
+use std::test::*;
 
 #[test]
 fn arities(rt: LibcRuntime) -> Result<(), Fail> {
@@ -16,12 +16,12 @@ fn arities(rt: LibcRuntime) -> Result<(), Fail> {
     check_eq(answer(draft.declare(5)), (1, 5, 0))?;
     check_eq(answer(draft.declare(4)), (0, 4, 0))?;
     let book = draft.seal();
-    let Some(last) = book.declarations().arity(4) else {
+    let Some(last) = book.arity(4) else {
         return Err(Fail::new("predicate 4 is not declared"));
     };
     check_eq(last.number(), 4)?;
-    check(book.declarations().arity(5).is_none())?;
-    check(book.declarations().arity(0).is_none())
+    check(book.arity(5).is_none())?;
+    check(book.arity(0).is_none())
 }
 
 #[test]

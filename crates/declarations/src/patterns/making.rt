@@ -8,8 +8,8 @@ use crate::declarations::Declarations;
 use crate::patterns::Patterns;
 use atoms::atom::Pattern;
 use reading::raw::RawAtom;
-use refusals::refusal::Refusal;
 use reading::sort::PatternTermSort;
+use refusals::refusal::Refusal;
 use terms::term::PatternTerm;
 
 impl Patterns {

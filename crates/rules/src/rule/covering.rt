@@ -6,8 +6,8 @@ ghost use Rattle.atoms.specs.Meaning.{pattern-meant};
 ghost use Rattle.terms.specs.Meaning.{slot-meant};
 ghost use mathlib.Core.List.{map};
 ghost use mathlib.Core.Path.{_≡_};
-use declarations::patterns::Patterns;
 use atoms::atom::Pattern;
+use declarations::patterns::Patterns;
 use terms::term::PatternTerm;
 
 /// Whether the term is a constant, or a variable of the pattern.

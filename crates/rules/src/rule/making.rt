@@ -7,14 +7,14 @@ ghost use Rattle.semantics.specs.Subject.{Guards};
 ghost use Rattle.std.specs.Finite.{nth};
 ghost use Rattle.std.specs.declared.option.Option.the-variants.{Some};
 ghost use mathlib.Core.Path.{_≡_};
-use declarations::declarations::Declarations;
-use declarations::patterns::Patterns;
 use crate::rule::Rule;
 use crate::rule::covering::find_guard;
 use atoms::atom::Pattern;
+use declarations::declarations::Declarations;
+use declarations::patterns::Patterns;
 use reading::raw::RawAtom;
-use refusals::refusal::Refusal;
 use reading::sort::PatternTermSort;
+use refusals::refusal::Refusal;
 
 impl Rule {
     /// The rule of this body and head, if the body has a guard.
@@ -25,10 +25,10 @@ impl Rule {
         Some(Rule { body, guard, head })
     }
 
-    pub fn body(&self) -> &Patterns
-        ensures { λ r. ⌜ now r ≡ now (self .entry) .body ⌝ }
+    pub fn body(&self) -> &[Pattern]
+        ensures { λ r. ⌜ now r ≡ patterns-listed (now (self .entry) .body) ⌝ }
     {
-        &self.body
+        self.body.as_slice()
     }
 
     pub fn head(&self) -> &Pattern
@@ -53,7 +53,11 @@ impl Rule {
 }
 
 /// The rule that is written. The head is checked last.
-pub fn check_rule(declarations: &Declarations, body: &[RawAtom], head: &RawAtom) -> Result<Rule, Refusal>
+pub fn check_rule(
+    declarations: &Declarations,
+    body: &[RawAtom],
+    head: &RawAtom,
+) -> Result<Rule, Refusal>
     ensures { λ r. ⌜ RuleChecked (arities-of (now (declarations .entry))) (now (body .entry)) (now (head .entry)) r ⌝ }
 {
     let patterns = declarations.check_patterns(body)?;
