@@ -6,9 +6,9 @@ use refusals::refusal::Refusal;
 use std::alloc::Global;
 use std::test::*;
 
+mod entries;
 mod guards;
 mod limits;
-mod refusals;
 
 fn v(number: u32) -> RawTerm {
     RawTerm::Variable(number)

@@ -2,4 +2,3 @@ pub mod Blank
 pub mod Flat
 pub mod Puts
 pub mod Rows
-pub mod Stacked

@@ -1,7 +1,7 @@
 //! Rows of records, of which the first few count.
-ghost use mathlib.Core.Path.{_≡_};
-ghost use Prim.Native.Nat.{ℕ, _≤_};
+ghost use Prim.Native.Nat.{min};
 ghost use lib.ListN.{length};
+ghost use mathlib.Core.Path.{_≡_};
 ghost use Rattle.std.specs.Orderings.{Decides};
 ghost use Rattle.std.specs.shelf.Lists.{Has};
 ghost use Rattle.std.specs.shelf.Maps.{nth};
@@ -11,13 +11,26 @@ use atoms::atom::AtomPartialEq;
 use atoms::atom::GroundAtom;
 use terms::term::TermPartialEq;
 
+/// How many records count, where `used` are to.
+fn limit(rows: &[Record], used: usize) -> usize
+    ensures { λ r. ⌜ r ≡ min used (length (now (rows .entry))) ⌝ }
+{
+    used.min(rows.len())
+}
+
+/// Whether the record holds the atom.
+fn holds(row: &Record, atom: &GroundAtom) -> bool
+    ensures { λ r. ⌜ Decides r (now (row .entry) .atom ≡ now (atom .entry)) ⌝ }
+{
+    row.atom == *atom
+}
+
 /// Whether the atom stands in one of the first records.
-pub(crate) fn stands(rows: &[Record], used: usize, atom: &GroundAtom) -> bool
-    requires { ⌜ used ≤ length (now rows) ⌝ }
+pub fn stands(rows: &[Record], used: usize, atom: &GroundAtom) -> bool
     ensures { λ r. ⌜ Decides r (Has (front used (now (rows .entry))) (now (atom .entry))) ⌝ }
 {
-    for i in 0..used {
-        if rows[i].atom == *atom {
+    for i in 0..limit(rows, used) {
+        if holds(&rows[i], atom) {
             return true;
         }
     }
@@ -25,11 +38,10 @@ pub(crate) fn stands(rows: &[Record], used: usize, atom: &GroundAtom) -> bool
 }
 
 /// The atom of that record, if it is one of the first.
-pub(crate) fn at(rows: &[Record], used: usize, place: usize) -> Option<GroundAtom>
-    requires { ⌜ used ≤ length (now rows) ⌝ }
+pub fn at(rows: &[Record], used: usize, place: usize) -> Option<GroundAtom>
     ensures { λ r. ⌜ r ≡ nth (front used (now (rows .entry))) place ⌝ }
 {
-    if place < used {
+    if place < limit(rows, used) {
         Some(rows[place].atom)
     } else {
         None

@@ -1,0 +1,2 @@
+pub mod Ensured
+pub mod Stacked

@@ -1,0 +1,3 @@
+//! Overlays: shelves on shelves.
+pub mod overlay;
+pub mod uses;
