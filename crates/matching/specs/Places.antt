@@ -10,8 +10,10 @@ use Rattle.std.specs.declared.result.Result.{Result}
 use Rattle.std.specs.declared.result.Result.the-variants.{Ok, Err}
 use Rattle.semantics.specs.Computed.{fit}
 use Rattle.semantics.specs.Subject.{Pattern, Atom, Binding, AtPlaces, Exactly}
+use Rattle.atoms.specs.declared.atom.Atom as code
 use Rattle.refusals.specs.Refusals.{Is}
 use Rattle.refusals.specs.declared.refusal.Refusal.{Refusal}
+use Rattle.terms.specs.declared.term.Term.{Term}
 
 module _ (pile : List Atom) (ps : List Pattern) (ks : List ℕ) where
   -- one binding makes each of the first i patterns fit the atom at its place
@@ -41,3 +43,8 @@ module _ (pile : List Atom) (b : Binding) (i : ℕ) (p : Pattern) (k : ℕ) wher
   abbrev pub FittedAt : Result Binding Refusal → Type 0
   FittedAt (Ok c) = (a : Atom) × (nth pile k ≡ Some a) × (fit b p a ≡ Some c)
   FittedAt (Err e) = NotFitted e
+
+-- the code's atom at place k, which is named for pattern i; or 12
+abbrev pub AtomAt : List (code.Atom Term) → ℕ → ℕ → Result (code.Atom Term) Refusal → Type 0
+AtomAt xs i k (Ok a) = nth xs k ≡ Some a
+AtomAt xs i k (Err e) = (nth xs k ≡ None) × Is e 12 i k

@@ -1,14 +1,28 @@
 //! Fitting several patterns at named places.
 ghost use Rattle.matching.specs.Bindings.{bound, bound-or};
-ghost use Rattle.matching.specs.Places.{FittedAt, Placed};
+ghost use Rattle.matching.specs.Places.{AtomAt, FittedAt, Placed};
 ghost use Rattle.matching.specs.Searches.{pile, patterns-meant};
 ghost use Rattle.atoms.specs.Meaning.{pattern-meant};
 use crate::binding::Binding;
 use crate::binding::unbound;
 use crate::fit::fit;
+use atoms::atom::GroundAtom;
 use atoms::atom::Pattern;
 use refusals::refusal::Refusal;
 use shelves::stock::Stock;
+
+/// The atom at the place that is named for the pattern of that index.
+fn atom_at<S: Stock>(stock: &S, index: usize, place: usize) -> Result<GroundAtom, Refusal>
+    ensures { λ r. ⌜ AtomAt (S·Stock .list (now (stock .entry))) index place r ⌝ }
+{
+    match stock.get(place) {
+        Some(atom) => Ok(atom),
+        None => Err(Refusal::PlacePastPile {
+            pattern: index,
+            place,
+        }),
+    }
+}
 
 /// The binding, extended so that the pattern of that index fits the atom at the place.
 fn fit_at<S: Stock>(
@@ -20,12 +34,7 @@ fn fit_at<S: Stock>(
 ) -> Result<Binding, Refusal>
     ensures { λ r. ⌜ FittedAt (pile (S·Stock .list (now (stock .entry)))) (bound binding) index (pattern-meant (now (pattern .entry))) place (bound-or r) ⌝ }
 {
-    let Some(atom) = stock.get(place) else {
-        return Err(Refusal::PlacePastPile {
-            pattern: index,
-            place,
-        });
-    };
+    let atom = atom_at(stock, index, place)?;
     match fit(binding, pattern, &atom) {
         Some(more) => Ok(more),
         None => Err(Refusal::AtomDoesNotFit {
