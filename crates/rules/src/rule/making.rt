@@ -1,6 +1,9 @@
 //! Making rules and reading them.
 ghost use Prim.Native.Nat.{ℕ};
 ghost use Rattle.declarations.specs.Arities.{arities-of};
+ghost use Rattle.declarations.specs.Checked.{Checked};
+ghost use Rattle.reading.specs.Written.{slot-written};
+ghost use lib.ListN.{length};
 ghost use Rattle.declarations.specs.Bodies.{patterns-meant, patterns-listed};
 ghost use Rattle.rules.specs.Rules.{MakesRule, RuleChecked};
 ghost use Rattle.semantics.specs.Subject.{Guards};
@@ -42,6 +45,13 @@ impl Rule {
         ensures value { λ r. ⌜ r ≡ now (self .entry) .guard ⌝ }
         ensures guards { λ r. ⌜ Guards (patterns-meant (now (self .entry) .body)) r ⌝ }
     {
+        self.index()
+    }
+
+    /// The guard's index as it is kept.
+    fn index(&self) -> usize
+        ensures { λ r. ⌜ r ≡ now (self .entry) .guard ⌝ }
+    {
         self.guard
     }
 
@@ -50,6 +60,17 @@ impl Rule {
     {
         &self.body.as_slice()[self.guard]
     }
+}
+
+/// The head that is written. Its index comes after those of the body.
+fn check_head(
+    declarations: &Declarations,
+    body: &[RawAtom],
+    head: &RawAtom,
+) -> Result<Pattern, Refusal>
+    ensures { λ r. ⌜ Checked slot-written (arities-of (now (declarations .entry))) (length (now (body .entry))) (now (head .entry)) r ⌝ }
+{
+    declarations.check(body.len(), head)
 }
 
 /// The rule that is written. The head is checked last.
@@ -61,6 +82,6 @@ pub fn check_rule(
     ensures { λ r. ⌜ RuleChecked (arities-of (now (declarations .entry))) (now (body .entry)) (now (head .entry)) r ⌝ }
 {
     let patterns = declarations.check_patterns(body)?;
-    let pattern = declarations.check(body.len(), head)?;
+    let pattern = check_head(declarations, body, head)?;
     Rule::new(patterns, pattern).ok_or(Refusal::NoGuard)
 }
