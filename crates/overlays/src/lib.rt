@@ -1,3 +1,2 @@
 //! Overlays: shelves on shelves.
 pub mod overlay;
-pub mod uses;

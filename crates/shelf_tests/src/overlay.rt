@@ -9,7 +9,7 @@ use overlays::overlay::NotEmptyDebug;
 use overlays::overlay::Overlay;
 use overlays::overlay::OverlayShelf;
 use overlays::overlay::OverlayStock;
-use overlays::uses::ensure;
+use piles::uses::ensure;
 use shelves::flat::FlatShelf;
 use shelves::flat::FlatShelves;
 use shelves::flat::FlatStock;

@@ -1,6 +1,6 @@
 use mathlib.Core.Path.{_∙_}
-use Rattle.overlays.proofs.Firsts.{some-room, first-put}
-use Rattle.overlays.proofs.uses.piled_first.Needs as need
+use Rattle.piles.proofs.Firsts.{some-room, first-put}
+use Rattle.piles.proofs.uses.piled_first.Needs as need
 
 pub returns : need.returns
 returns c =

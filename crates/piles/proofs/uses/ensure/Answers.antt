@@ -1,5 +1,5 @@
-use Rattle.overlays.proofs.Firsts.{made}
-use Rattle.overlays.proofs.uses.ensure.Needs as need
+use Rattle.piles.proofs.Firsts.{made}
+use Rattle.piles.proofs.uses.ensure.Needs as need
 
 pub returns-in-At : need.returns-in-At
 returns-in-At g c =

@@ -11,7 +11,7 @@ use Rattle.std.proofs.shelf.Elements.{has-push}
 use Rattle.atoms.specs.declared.atom.Atom.{Atom}
 use Rattle.terms.specs.declared.term.Term.{Term}
 use Rattle.shelves.specs.Puts.{Puts}
-use Rattle.overlays.specs.Ensured.{Ensured}
+use Rattle.piles.specs.Ensured.{Ensured}
 use Rattle.shelves.specs.declared.placed.Placed.{Placed}
 use Rattle.shelves.specs.declared.placed.Placed.the-variants.{Already, Full, At}
 

@@ -1,6 +1,6 @@
 use mathlib.Core.Path.{_∙_}
-use Rattle.overlays.proofs.Firsts.{some-room, first-ensured}
-use Rattle.overlays.proofs.uses.piled.Needs as need
+use Rattle.piles.proofs.Firsts.{some-room, first-ensured}
+use Rattle.piles.proofs.uses.piled.Needs as need
 
 pub returns : need.returns
 returns c =
