@@ -1,4 +1,4 @@
-//! The employee example: its rule book, its database on a flat shelf, and what book, shelf and search answer.
+//! The employee example: its rule book, its database on a flat shelf, and what book, shelf and queries answer.
 mod personnel;
 mod show;
 

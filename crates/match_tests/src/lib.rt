@@ -1,6 +1,6 @@
-//! Tests of fitting and searching, and what they share.
+//! Tests of fitting and of finding matches, and what they share.
+#[cfg(test)]
+mod finds;
 #[cfg(test)]
 mod fits;
 mod made;
-#[cfg(test)]
-mod searches;

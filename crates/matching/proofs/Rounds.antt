@@ -14,13 +14,13 @@ use Rattle.std.specs.declared.option.Option.the-variants.{Some, None}
 use Rattle.std.proofs.shelf.Lists.{take-all}
 use Rattle.std.proofs.shelf.Tests.{both-ways}
 use Rattle.semantics.specs.Subject.{Atom, Binding, Pattern}
-use Rattle.semantics.specs.Computed.{fit, and-then, first-of, search, reaches}
+use Rattle.semantics.specs.Computed.{fit, and-then, first-of, first-match, reaches}
 use Rattle.semantics.proofs.Fitting.{some-is, none-some}
 use Rattle.semantics.proofs.Searching.{none-first, once-enough}
 
 -- what the first pattern gives at the atoms of rest
 abbrev pub tried : List Atom → Binding → Pattern → List Pattern → List Atom → Option Binding
-tried whole b p ps rest = first-of (λ a. and-then (fit b p a) (λ c. search whole c ps)) rest
+tried whole b p ps rest = first-of (λ a. and-then (fit b p a) (λ c. first-match whole c ps)) rest
 
 module _ {A B : Type 0} (f : A → Option B) where
   turn-suc : (xs : List A) (k : ℕ) (x : A) → nth xs k ≡ Some x → first-of f (drop k xs) ≡ orOther (f x) (first-of f (drop (suc k) xs))
@@ -58,12 +58,12 @@ split [] x h e = absurd (omega arith)
 split (y ∷ ys) x h e = λ i. sym e i ∷ sym (take-all (length (y ∷ ys) - 1) ys (omega arith)) i
 
 -- the atom at place k, which the first pattern fits
-module _ (whole : List Atom) (b : Binding) (p : Pattern) (ps : List Pattern) (k : ℕ) (x : Atom) (there : nth whole k ≡ Some x) (c : Binding) (fits : Some c ≡ fit b p x) (r : Option Binding) (is : r ≡ search whole c ps) where
-  here : and-then (fit b p x) (λ d. search whole d ps) ≡ r
-  here = ap (λ o. and-then o (λ d. search whole d ps)) (sym fits) ∙ sym is
+module _ (whole : List Atom) (b : Binding) (p : Pattern) (ps : List Pattern) (k : ℕ) (x : Atom) (there : nth whole k ≡ Some x) (c : Binding) (fits : Some c ≡ fit b p x) (r : Option Binding) (is : r ≡ first-match whole c ps) where
+  here : and-then (fit b p x) (λ d. first-match whole d ps) ≡ r
+  here = ap (λ o. and-then o (λ d. first-match whole d ps)) (sym fits) ∙ sym is
 
   one : tried whole b p ps (drop k whole) ≡ orOther r (tried whole b p ps (drop (k + 1) whole))
-  one = turn (λ a. and-then (fit b p a) (λ d. search whole d ps)) whole k x there ∙ ap (λ o. orOther o (tried whole b p ps (drop (k + 1) whole))) here
+  one = turn (λ a. and-then (fit b p a) (λ d. first-match whole d ps)) whole k x there ∙ ap (λ o. orOther o (tried whole b p ps (drop (k + 1) whole))) here
 
   pub goes-on : isSome r ≡ false → tried whole b p ps (drop (k + 1) whole) ≡ tried whole b p ps (drop k whole)
   goes-on n = sym (one ∙ other r n)
@@ -76,7 +76,7 @@ module _ (whole : List Atom) (b : Binding) (p : Pattern) (ps : List Pattern) (k 
   ends why = sym (one ∙ go r refl)
     where
       later : r ≡ None → reaches b (p .slots) ps ≡ false → tried whole b p ps (drop (k + 1) whole) ≡ None
-      later e once = none-first (λ a. and-then (fit b p a) (λ d. search whole d ps)) (drop (k + 1) whole) (once-enough whole b p ps once x c (sym fits) (sym is ∙ e))
+      later e once = none-first (λ a. and-then (fit b p a) (λ d. first-match whole d ps)) (drop (k + 1) whole) (once-enough whole b p ps once x c (sym fits) (sym is ∙ e))
 
       go : (o : Option Binding) → r ≡ o → orOther o (tried whole b p ps (drop (k + 1) whole)) ≡ o
       go (Some y) e = refl
@@ -93,4 +93,4 @@ mapped-some f (Some x) = refl
 -- the atom at place k, which the first pattern does not fit
 pub no-fit : (whole : List Atom) (b : Binding) (p : Pattern) (ps : List Pattern) (k : ℕ) (x : Atom) → nth whole k ≡ Some x → None ≡ fit b p x → tried whole b p ps (drop (k + 1) whole) ≡ tried whole b p ps (drop k whole)
 no-fit whole b p ps k x there e =
-    sym (turn (λ a. and-then (fit b p a) (λ d. search whole d ps)) whole k x there ∙ ap (λ o. orOther (and-then o (λ d. search whole d ps)) (tried whole b p ps (drop (k + 1) whole))) (sym e))
+    sym (turn (λ a. and-then (fit b p a) (λ d. first-match whole d ps)) whole k x there ∙ ap (λ o. orOther (and-then o (λ d. first-match whole d ps)) (tried whole b p ps (drop (k + 1) whole))) (sym e))

@@ -1,7 +1,7 @@
 -- The steps of the loops that look for variables.
 use mathlib.Core.Path.{_≡_, refl, sym, ap, subst, _∙_}
 use mathlib.Core.List.{List, [], _∷_, map}
-use mathlib.Core.Bool.{Bool, true, false, cond, _&&_, _||_}
+use mathlib.Core.Bool.{Bool, true, false, cond, _&&_}
 use Prim.Native.Nat.{ℕ, zero, suc, _+_, _<_, _≤_}
 use native.Mathlib.Omega.{arith}
 use lib.Dec.{eqb}
@@ -13,7 +13,7 @@ use Rattle.std.specs.declared.option.Option.the-variants.{Some, None}
 use Rattle.std.proofs.shelf.Lists.{length-map}
 use Rattle.std.proofs.shelf.Tests.{eqb-true, eq-eqb, both-ways}
 use Rattle.semantics.specs.Computed.{covers, covers-all, guard, guard-from}
-use Rattle.semantics.specs.Subject.{Slot, con, var, Pattern, is-var, in-slots}
+use Rattle.semantics.specs.Subject.{Slot, con, var, Pattern}
 use Rattle.semantics.proofs.Fitting.{some-is, none-some}
 use Rattle.semantics.proofs.Guarding.{guards, no-guard}
 use Rattle.atoms.specs.Meaning.{pattern-meant}
@@ -43,10 +43,6 @@ nth-within (x ∷ xs) (suc i) e l = nth-within xs i e (omega arith)
 pub covers-first : (s : Slot) (ss q : List Slot) → covers (s ∷ ss) q ≡ (slot-covered s q && covers ss q)
 covers-first (con c) ss q = refl
 covers-first (var i) ss q = refl
-
-pub in-slots-more : (v : ℕ) (ts : List PatternTerm) (i : ℕ) (t : PatternTerm) → nth ts i ≡ Some t → is-var v (slot-meant t) ≡ false → in-slots v (map slot-meant (drop (i + 1) ts)) ≡ in-slots v (map slot-meant (drop i ts))
-in-slots-more v ts i t there lacks =
-    sym (ap (λ us. in-slots v (map slot-meant us)) (drop-at ts i t there) ∙ ap (λ w. w || in-slots v (map slot-meant (drop (i + 1) ts))) lacks)
 
 at-slot : (ts : List PatternTerm) (i : ℕ) (t : PatternTerm) (q : List Slot) (w : Bool) → nth ts i ≡ Some t → slot-covered (slot-meant t) q ≡ w → covers (map slot-meant (drop i ts)) q ≡ (w && covers (map slot-meant (drop (i + 1) ts)) q)
 at-slot ts i t q w there is =

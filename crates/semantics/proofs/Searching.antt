@@ -13,7 +13,7 @@ use Rattle.std.specs.declared.option.Option.{Option}
 use Rattle.std.specs.declared.option.Option.the-variants.{Some, None}
 use Rattle.std.proofs.shelf.Tests.{both-ways, or-cases, eqb-true, eq-eqb}
 use Rattle.semantics.specs.Subject.{Slot, con, var, Pattern, Atom, Binding, GivesAll, Fits, Candidate, On, Holds, Match, Searched, Extends, in-slots, in-patterns}
-use Rattle.semantics.specs.Computed.{fit, nothing, and-then, first-of, search, reaches}
+use Rattle.semantics.specs.Computed.{fit, nothing, and-then, first-of, first-match, reaches}
 use Rattle.semantics.proofs.Fitting.{some-is, none-some, then-some, Grown, all-more, fit-sound, fit-complete}
 
 pub holds-more : (m : Candidate) (b c : Binding) (p : Pattern) → Extends b c → Holds m b p → Holds m c p
@@ -50,15 +50,14 @@ none-first f [] h = refl
 none-first f (x ∷ xs) h = ap (λ o. orOther o (first-of f xs)) (h x) ∙ none-first f xs h
 
 -- what a search that began at b gives
-pub Found : List Atom → Binding → List Pattern → Binding → Type 0
+abbrev pub Found : List Atom → Binding → List Pattern → Binding → Type 0
 Found pile b ps c = Grown b c (Every (Holds (On pile) c) ps) (λ i. in-patterns i ps)
 
-pub search-sound : (pile : List Atom) (b : Binding) (ps : List Pattern) (c : Binding) → search pile b ps ≡ Some c → Found pile b ps c
-unfolding Found
+pub search-sound : (pile : List Atom) (b : Binding) (ps : List Pattern) (c : Binding) → first-match pile b ps ≡ Some c → Found pile b ps c
 search-sound pile b [] c e = subst (λ d. Grown b d (Unit {0}) (λ i. false)) (some-is e) (record { gives = tt; more = λ i u g. g; exact = λ i. sym (or-false (isSome (b i))) })
 search-sound pile b (p ∷ ps) c e =
-    let s = first-found (λ a. and-then (fit b p a) (λ d. search pile d ps)) pile c e in
-    let t = then-some (fit b p (s .1)) (λ d. search pile d ps) c (s .3) in
+    let s = first-found (λ a. and-then (fit b p a) (λ d. first-match pile d ps)) pile c e in
+    let t = then-some (fit b p (s .1)) (λ d. first-match pile d ps) c (s .3) in
     let first = fit-sound b p (s .1) (t .0) (t .1) in
     let rest = search-sound pile (t .0) ps c (t .2) in
     record {
@@ -67,23 +66,22 @@ search-sound pile b (p ∷ ps) c e =
       exact = λ i. rest .exact i ∙ ap (λ w. w || in-patterns i ps) (first .exact i) ∙ or-assoc (isSome (b i)) (in-slots i (p .slots)) (in-patterns i ps);
     }
 
-pub search-complete : (pile : List Atom) (b c : Binding) (ps : List Pattern) → Extends b c → Every (Holds (On pile) c) ps → search pile b ps ≡ None → ⊥
+pub search-complete : (pile : List Atom) (b c : Binding) (ps : List Pattern) → Extends b c → Every (Holds (On pile) c) ps → first-match pile b ps ≡ None → ⊥
 search-complete pile b c [] x h e = none-some (sym e)
 search-complete pile b c (p ∷ ps) x h e =
     let w = h .0 in
     let f = fit-complete b c p (w .0) x (w .1) in
-    let none = first-none (λ a. and-then (fit b p a) (λ d. search pile d ps)) pile e (w .2 .0) (w .0) (w .2 .1) in
-    search-complete pile (f .0) c ps (f .2) (h .1) (sym (ap (λ o. and-then o (λ d. search pile d ps)) (f .1)) ∙ none)
+    let none = first-none (λ a. and-then (fit b p a) (λ d. first-match pile d ps)) pile e (w .2 .0) (w .0) (w .2 .1) in
+    search-complete pile (f .0) c ps (f .2) (h .1) (sym (ap (λ o. and-then o (λ d. first-match pile d ps)) (f .1)) ∙ none)
 
 ⊥-is : (x y : ⊥) → x ≡ y
 ⊥-is x y = absurd x
 
 -- the search decides whether there is a match, and gives one
-pub search-searched : (pile : List Atom) (ps : List Pattern) → Searched (On pile) ps (search pile nothing ps)
-unfolding Found
-search-searched pile ps = go (search pile nothing ps) refl
+pub search-searched : (pile : List Atom) (ps : List Pattern) → Searched (On pile) ps (first-match pile nothing ps)
+search-searched pile ps = go (first-match pile nothing ps) refl
   where
-    go : (o : Option Binding) → search pile nothing ps ≡ o → Searched (On pile) ps o
+    go : (o : Option Binding) → first-match pile nothing ps ≡ o → Searched (On pile) ps o
     go None e = λ h. ∥∥₁-elim h ⊥-is (λ w. search-complete pile nothing (w .0) ps (λ i t q. absurd (none-some q)) (w .1 .1) e)
     go (Some b) e = let f = search-sound pile nothing ps b e in (f .exact, f .gives)
 
@@ -109,9 +107,8 @@ holds-agree m b c (p ∷ ps) same h = (
 abbrev mixed : List Pattern → Binding → Binding → Binding
 mixed ps d c i = cond (in-patterns i ps) (d i) (c i)
 
-agree-none : (pile : List Atom) (b c : Binding) (ps : List Pattern) → ((i : ℕ) → in-patterns i ps ≡ true → b i ≡ c i) → search pile b ps ≡ None → search pile c ps ≡ None
-unfolding Found
-agree-none pile b c ps same none = go (search pile c ps) refl
+agree-none : (pile : List Atom) (b c : Binding) (ps : List Pattern) → ((i : ℕ) → in-patterns i ps ≡ true → b i ≡ c i) → first-match pile b ps ≡ None → first-match pile c ps ≡ None
+agree-none pile b c ps same none = go (first-match pile c ps) refl
   where
     extends : (d : Binding) → Extends c d → Extends b (mixed ps d b)
     extends d x i t h = at (in-patterns i ps) refl
@@ -120,7 +117,7 @@ agree-none pile b c ps same none = go (search pile c ps) refl
         at true e = x i t (sym (same i e) ∙ h)
         at false e = h
 
-    go : (o : Option Binding) → search pile c ps ≡ o → o ≡ None
+    go : (o : Option Binding) → first-match pile c ps ≡ o → o ≡ None
     go None e = refl
     go (Some d) e =
         let f = search-sound pile c ps d e in
@@ -173,9 +170,9 @@ module _ (pile : List Atom) (b : Binding) (p : Pattern) (ps : List Pattern) (onc
       go None q = empty (c i) (g .exact i ∙ free q) ∙ sym (empty (c′ i) (g′ .exact i ∙ free q))
       go (Some t) q = g .more i t q ∙ sym (g′ .more i t q)
 
-  pub once-enough : (a : Atom) (c : Binding) → fit b p a ≡ Some c → search pile c ps ≡ None → (a′ : Atom) → and-then (fit b p a′) (λ d. search pile d ps) ≡ None
+  pub once-enough : (a : Atom) (c : Binding) → fit b p a ≡ Some c → first-match pile c ps ≡ None → (a′ : Atom) → and-then (fit b p a′) (λ d. first-match pile d ps) ≡ None
   once-enough a c e none a′ = go (fit b p a′) refl
     where
-      go : (o : Option Binding) → fit b p a′ ≡ o → and-then o (λ d. search pile d ps) ≡ None
+      go : (o : Option Binding) → fit b p a′ ≡ o → and-then o (λ d. first-match pile d ps) ≡ None
       go None q = refl
       go (Some d) q = agree-none pile c d ps (fits-agree a a′ c d e q) none

@@ -1,4 +1,4 @@
--- The same by computation: fitting, the bound atom, search, fitting at places, the guard. What the code is proved equal to
+-- The same by computation: fitting, the bound atom, the first match, fitting at places, the guard. What the code is proved equal to
 -- on the way to the relations of the subject.
 use mathlib.Core.List.{List, [], _∷_}
 use mathlib.Core.Bool.{Bool, true, false, cond, not, _&&_, _||_}
@@ -53,9 +53,9 @@ first-of f [] = None
 first-of f (x ∷ xs) = orOther (f x) (first-of f xs)
 
 -- the first match in the order of the patterns and, for each, of the list, among those that extend b
-abbrev pub search : List Atom → Binding → List Pattern → Option Binding
-search pile b [] = Some b
-search pile b (p ∷ ps) = first-of (λ a. and-then (fit b p a) (λ c. search pile c ps)) pile
+abbrev pub first-match : List Atom → Binding → List Pattern → Option Binding
+first-match pile b [] = Some b
+first-match pile b (p ∷ ps) = first-of (λ a. and-then (fit b p a) (λ c. first-match pile c ps)) pile
 
 -- whether a variable of the slots that b does not bind stands in the patterns
 abbrev pub reaches : Binding → List Slot → List Pattern → Bool

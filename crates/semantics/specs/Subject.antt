@@ -108,7 +108,7 @@ Match m b ps = Exactly b ps × Every (Holds m b) ps
 abbrev pub HasMatch : Candidate → List Pattern → Type 0
 HasMatch m ps = ∥ ((b : Binding) × Match m b ps) ∥₁
 
--- what a search gives: a match, or nothing where there is none
+-- what looking for a match gives: a match, or nothing where there is none
 abbrev pub Searched : Candidate → List Pattern → Option Binding → Type 0
 Searched m ps (Some b) = Match m b ps
 Searched m ps None = HasMatch m ps → ⊥

@@ -9,7 +9,7 @@ use Rattle.atoms.specs.Meaning.{pattern-meant}
 use Rattle.atoms.specs.declared.atom.Atom.{Atom}
 use Rattle.terms.specs.declared.term.PatternTerm.{PatternTerm}
 use Rattle.matching.specs.Searches.{patterns-meant}
-use Rattle.matching.proofs.search.stands_in.Needs as need
+use Rattle.matching.proofs.find.stands_in.Needs as need
 
 -- one turn looks at one pattern
 turn : (v : ℕ) (ps : List (Atom PatternTerm)) (i : ℕ) (p : Atom PatternTerm) (w : Bool) → i < length ps → p ≡ getD ps i p → w ≡ in-slots v (pattern-meant p .slots) → in-patterns v (patterns-meant (drop i ps)) ≡ (w || in-patterns v (patterns-meant (drop (i + 1) ps)))

@@ -1,4 +1,4 @@
-//! Tests of the search, and of fitting at named places.
+//! Tests of finding matches, and of fitting at named places.
 use crate::made::Unfit;
 use crate::made::UnfitDebug;
 use crate::made::atom;
@@ -8,9 +8,9 @@ use crate::made::pattern;
 use crate::made::v;
 use atoms::atom::AtomPartialEq;
 use atoms::row::Row;
+use matching::find::find_match;
 use matching::instance::bound_atom;
 use matching::places::fit_places;
-use matching::search::find_match;
 use shelves::flat::FlatShelf;
 use shelves::flat::FlatShelves;
 use shelves::flat::FlatStock;
@@ -22,7 +22,7 @@ use shelves::stock::Shelf;
 use std::test::*;
 use terms::term::TermPartialEq;
 
-/// The second pattern sends the search back over the first, and the first match is the one by place.
+/// The second pattern sends it back over the first, and the first match is the one by place.
 #[test]
 fn goes_back() -> Result<(), Fail> {
     let mut records = [Record::blank(); 4];

@@ -1,8 +1,8 @@
-//! The search of several patterns through a stock.
+//! Looking for a match of several patterns in a stock.
 ghost use Prim.Native.Nat.{suc};
 ghost use Rattle.matching.specs.Bindings.{bound};
 ghost use Rattle.matching.specs.Searches.{pile, patterns-meant};
-ghost use Rattle.semantics.specs.Computed.{nothing, reaches, search};
+ghost use Rattle.semantics.specs.Computed.{nothing, reaches, first-match};
 ghost use Rattle.semantics.specs.Subject.{On, Searched, in-patterns};
 ghost use Rattle.std.specs.Options.{mapped};
 ghost use Rattle.atoms.specs.Meaning.{pattern-meant};
@@ -69,8 +69,8 @@ fn pattern_reaches(binding: Binding, pattern: &Pattern, later: &[Pattern]) -> bo
 
 /// The first extension of the binding to a match, patterns from left to right and atoms by place. Where no further
 /// variable of the first pattern stands in a later one, one atom that it fits is as good as another.
-fn search_from<S: Stock>(stock: &S, patterns: &[Pattern], binding: Binding) -> Option<Binding>
-    ensures { λ r. ⌜ mapped bound r ≡ search (pile (S·Stock .list (now (stock .entry)))) (bound binding) (patterns-meant (now (patterns .entry))) ⌝ }
+fn find_from<S: Stock>(stock: &S, patterns: &[Pattern], binding: Binding) -> Option<Binding>
+    ensures { λ r. ⌜ mapped bound r ≡ first-match (pile (S·Stock .list (now (stock .entry)))) (bound binding) (patterns-meant (now (patterns .entry))) ⌝ }
 {
     let [first, later @ ..] = patterns else {
         return Some(binding);
@@ -79,7 +79,7 @@ fn search_from<S: Stock>(stock: &S, patterns: &[Pattern], binding: Binding) -> O
     for place in 0..stock.len() {
         if let Some(atom) = stock.get(place) {
             if let Some(more) = fit(binding, first, &atom) {
-                let found = search_from(stock, later, more);
+                let found = find_from(stock, later, more);
                 if found.is_some() || !again {
                     return found;
                 }
@@ -91,8 +91,8 @@ fn search_from<S: Stock>(stock: &S, patterns: &[Pattern], binding: Binding) -> O
 
 /// The first match of the patterns in the stock, if there is one.
 pub fn find_match<S: Stock>(stock: &S, patterns: &[Pattern]) -> Option<Binding>
-    ensures value { λ r. ⌜ mapped bound r ≡ search (pile (S·Stock .list (now (stock .entry)))) nothing (patterns-meant (now (patterns .entry))) ⌝ }
-    ensures searched { λ r. ⌜ Searched (On (pile (S·Stock .list (now (stock .entry))))) (patterns-meant (now (patterns .entry))) (mapped bound r) ⌝ }
+    ensures value { λ r. ⌜ mapped bound r ≡ first-match (pile (S·Stock .list (now (stock .entry)))) nothing (patterns-meant (now (patterns .entry))) ⌝ }
+    ensures matched { λ r. ⌜ Searched (On (pile (S·Stock .list (now (stock .entry))))) (patterns-meant (now (patterns .entry))) (mapped bound r) ⌝ }
 {
-    search_from(stock, patterns, unbound())
+    find_from(stock, patterns, unbound())
 }
