@@ -25,7 +25,7 @@ fn atom_at<S: Stock>(stock: &S, index: usize, place: usize) -> Result<GroundAtom
 }
 
 /// The binding, extended so that the pattern of that index fits the atom at the place.
-fn fit_at<S: Stock>(
+pub fn fit_at<S: Stock>(
     stock: &S,
     binding: Binding,
     index: usize,

@@ -1,0 +1,3 @@
+pub mod Firing
+pub mod Freshening
+pub mod Standing
