@@ -11,15 +11,17 @@ use Rattle.std.specs.Vec.{Every}
 use Rattle.std.specs.declared.option.Option.{Option}
 use Rattle.std.specs.declared.option.Option.the-variants.{Some, None}
 use Rattle.std.proofs.shelf.Tests.{both-ways, eq-eqb}
-use Rattle.semantics.specs.Subject.{Pattern, Atom, Binding, Rule, Fits, Holds, Match, Extends, Exactly}
+use Rattle.semantics.specs.Subject.{Pattern, Atom, Binding, Rule, Fits, Holds, Match, Extends, Exactly, Guards}
 use Rattle.semantics.specs.Subject.{On}
 use Rattle.chase.specs.Chase.{State, Move, guard-of, numbered, fresh, with-head, step, missing, after-side, after-fit, after-place, after-guard, after-rule, Claim, accepted, refused, claim, claim-from, claim-place, claim-fit, goes-on}
-use Rattle.semantics.specs.Computed.{nothing, fit, atom-of}
-use Rattle.chase.specs.Law.{Fires, is-broken, Step-exact, Claim-exact}
+use Rattle.semantics.specs.Computed.{nothing, fit, atom-of, guard, and-then}
+use Rattle.chase.specs.Firing.{Fires}
+use Rattle.chase.specs.Law.{Used, is-broken, Step-exact, Claim-exact}
 use Rattle.semantics.specs.Subject.{AtPlaces}
 use Rattle.chase.proofs.Claims.{refused-not, accepted-is, on-accepted}
-use Rattle.semantics.proofs.Fitting.{some-is, none-some, fit-sound, fit-complete, gives-terms, Grown, all-more}
-use Rattle.chase.proofs.Piles.{guards, guard-exact, none-missing, every-map}
+use Rattle.semantics.proofs.Guarding.{guards, guard-only}
+use Rattle.semantics.proofs.Fitting.{then-some, some-is, none-some, fit-sound, fit-complete, gives-terms, Grown, all-more}
+use Rattle.chase.proofs.Piles.{guard-exact, none-missing, every-map}
 use Rattle.chase.proofs.Image.{on-match}
 use Rattle.chase.proofs.Refutes.{same-part}
 
@@ -40,38 +42,52 @@ only-binding pile r g a b ge f x =
 holds-on : (pile : List Atom) (b : Binding) (p : Pattern) → Holds (On pile) b p → On pile (atom-of b p)
 holds-on pile b p h = subst (On pile) (λ i. record { pred = sym (h .1 .0) i; terms = gives-terms b (p .slots) (h .0 .terms) (h .1 .1) i }) (h .2)
 
-module _ (rules : List Rule) (s : State) (k place : ℕ) where
-  fires : (f : Fires rules s k place) → step rules s k place ≡ with-head s (f .rule .head) (fresh (f .by) (s .nulls) (f .rule .head .slots))
-  fires f =
-      ap (after-rule s k place) (f .named)
-      ∙ ap (after-guard s (f .rule) place) (f .guards)
-      ∙ ap (after-place s (f .rule) place (f .guard)) (f .there)
-      ∙ ap (after-fit s (f .rule) place) (only-binding (s .pile) (f .rule) (f .guard) (f .at) (f .by) (f .guards) (f .fits) (f .matches .0))
-      ∙ ap (after-side s (f .rule) (f .by)) (none-missing (s .pile) (f .by) (f .rule .body) (every-map (Holds (On (s .pile)) (f .by)) (λ p. On (s .pile) (atom-of (f .by) p)) (f .rule .body) (holds-on (s .pile) (f .by)) (f .matches .1)))
+-- the guard of the relation is the one that is computed
+guard-known : (r : Rule) (k : ℕ) (g : Guards (r .body) k) → guard-of r ≡ Some (g .pattern)
+guard-known r k g = ap (λ o. and-then o (nth (r .body))) (guard-only (r .body) k g) ∙ g .there
 
-  unbroken : is-broken (step rules s k place) ≡ false → Fires rules s k place
+module _ (rules : List Rule) (s : State) (k place : ℕ) where
+  fires : (f : Used rules s k place) → step rules s k place ≡ with-head s (f .rule .head) (fresh (f .by) (s .nulls) (f .rule .head .slots))
+  fires f =
+      let r = f .rule in
+      let g = f .fires .guards in
+      let ge = guard-known r (f .fires .index) g in
+      ap (after-rule s k place) (f .named)
+      ∙ ap (after-guard s r place) ge
+      ∙ ap (after-place s r place (g .pattern)) (f .fires .there)
+      ∙ ap (after-fit s r place) (only-binding (s .pile) r (g .pattern) (f .fires .at) (f .by) ge (f .fires .fits) (f .fires .matches .0))
+      ∙ ap (after-side s r (f .by)) (none-missing (s .pile) (f .by) (r .body) (every-map (Holds (On (s .pile)) (f .by)) (λ p. On (s .pile) (atom-of (f .by) p)) (r .body) (holds-on (s .pile) (f .by)) (f .fires .matches .1)))
+
+  -- what is computed fires
+  used : (r : Rule) (g : Pattern) (a : Atom) (b : Binding) → guard-of r ≡ Some g → nth (s .pile) place ≡ Some a → fit nothing g a ≡ Some b → Match (On (s .pile)) b (r .body) → Fires (s .pile) r place b
+  used r g a b e there f m =
+      let h = then-some (guard (r .body)) (nth (r .body)) g e in
+      let q = guards (r .body) (h .0) (h .1) in
+      record { index = h .0; guards = q; at = a; there = there; fits = subst (λ p. Fits b p a) (some-is (sym (h .2) ∙ q .there)) (fit-sound nothing g a b f .gives); matches = m }
+
+  unbroken : is-broken (step rules s k place) ≡ false → Used rules s k place
   unbroken = rule-case (numbered rules k) refl
     where
       no : true ≡ false → ⊥
       no e = both-ways true e refl
 
-      side-case : (r : Rule) (g : Pattern) (a : Atom) (b : Binding) → numbered rules k ≡ Some r → guard-of r ≡ Some g → nth (s .pile) place ≡ Some a → fit nothing g a ≡ Some b → (o : Option ℕ) → missing (s .pile) b (r .body) ≡ o → is-broken (after-side s r b o) ≡ false → Fires rules s k place
+      side-case : (r : Rule) (g : Pattern) (a : Atom) (b : Binding) → numbered rules k ≡ Some r → guard-of r ≡ Some g → nth (s .pile) place ≡ Some a → fit nothing g a ≡ Some b → (o : Option ℕ) → missing (s .pile) b (r .body) ≡ o → is-broken (after-side s r b o) ≡ false → Used rules s k place
       side-case r g a b e1 e2 e3 e4 (Some i) e5 h = absurd (no h)
-      side-case r g a b e1 e2 e3 e4 None e5 h = record { rule = r; named = e1; guard = g; guards = e2; at = a; there = e3; by = b; fits = fit-sound nothing g a b e4 .gives; matches = on-match (s .pile) b (r .body) (guard-exact r g a b e2 e4) e5 }
+      side-case r g a b e1 e2 e3 e4 None e5 h = record { rule = r; named = e1; by = b; fires = used r g a b e2 e3 e4 (on-match (s .pile) b (r .body) (guard-exact r g a b e2 e4) e5) }
 
-      fit-case : (r : Rule) (g : Pattern) (a : Atom) → numbered rules k ≡ Some r → guard-of r ≡ Some g → nth (s .pile) place ≡ Some a → (o : Option Binding) → fit nothing g a ≡ o → is-broken (after-fit s r place o) ≡ false → Fires rules s k place
+      fit-case : (r : Rule) (g : Pattern) (a : Atom) → numbered rules k ≡ Some r → guard-of r ≡ Some g → nth (s .pile) place ≡ Some a → (o : Option Binding) → fit nothing g a ≡ o → is-broken (after-fit s r place o) ≡ false → Used rules s k place
       fit-case r g a e1 e2 e3 None e4 h = absurd (no h)
       fit-case r g a e1 e2 e3 (Some b) e4 h = side-case r g a b e1 e2 e3 e4 (missing (s .pile) b (r .body)) refl h
 
-      place-case : (r : Rule) (g : Pattern) → numbered rules k ≡ Some r → guard-of r ≡ Some g → (o : Option Atom) → nth (s .pile) place ≡ o → is-broken (after-place s r place g o) ≡ false → Fires rules s k place
+      place-case : (r : Rule) (g : Pattern) → numbered rules k ≡ Some r → guard-of r ≡ Some g → (o : Option Atom) → nth (s .pile) place ≡ o → is-broken (after-place s r place g o) ≡ false → Used rules s k place
       place-case r g e1 e2 None e3 h = absurd (no h)
       place-case r g e1 e2 (Some a) e3 h = fit-case r g a e1 e2 e3 (fit nothing g a) refl h
 
-      guard-case : (r : Rule) → numbered rules k ≡ Some r → (o : Option Pattern) → guard-of r ≡ o → is-broken (after-guard s r place o) ≡ false → Fires rules s k place
+      guard-case : (r : Rule) → numbered rules k ≡ Some r → (o : Option Pattern) → guard-of r ≡ o → is-broken (after-guard s r place o) ≡ false → Used rules s k place
       guard-case r e1 None e2 h = absurd (no h)
       guard-case r e1 (Some g) e2 h = place-case r g e1 e2 (nth (s .pile) place) refl h
 
-      rule-case : (o : Option Rule) → numbered rules k ≡ o → is-broken (after-rule s k place o) ≡ false → Fires rules s k place
+      rule-case : (o : Option Rule) → numbered rules k ≡ o → is-broken (after-rule s k place o) ≡ false → Used rules s k place
       rule-case None e1 h = absurd (no h)
       rule-case (Some r) e1 h = guard-case r e1 (guard-of r) refl h
 

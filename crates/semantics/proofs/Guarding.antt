@@ -10,7 +10,7 @@ use Rattle.std.specs.Options.{isSome, mapped, valueOr}
 use Rattle.std.specs.Finite.{nth}
 use Rattle.std.specs.declared.option.Option.{Option}
 use Rattle.std.specs.declared.option.Option.the-variants.{Some, None}
-use Rattle.std.proofs.shelf.Tests.{eqb-true, eq-eqb, both-ways, or-cases, and-parts, and-from}
+use Rattle.std.proofs.shelf.Tests.{eqb-true, eq-eqb, both-ways, or-cases, and-parts, and-from, cases-lt}
 use Rattle.semantics.specs.Subject.{Slot, con, var, Pattern, in-slots, in-patterns, HasAll, Guards}
 use Rattle.semantics.specs.Computed.{covers, covers-all, guard, guard-from}
 use Rattle.semantics.proofs.Fitting.{some-is, none-some}
@@ -101,3 +101,20 @@ guards body k e =
 -- where nothing is computed there is no guard
 pub no-guard : (body : List Pattern) → guard body ≡ None → (k : ℕ) → Guards body k → ⊥
 no-guard body e k g = unfound body body k (g .pattern) e (g .there) (covers-from body (g .pattern) (g .has-all))
+
+-- there is one guard at most, and it is what is computed
+pub guard-only : (body : List Pattern) (k : ℕ) → Guards body k → guard body ≡ Some k
+guard-only body k g = go (guard body) refl
+  where
+    go : (o : Option ℕ) → guard body ≡ o → guard body ≡ Some k
+    go None e = absurd (no-guard body e k g)
+    go (Some j) e =
+        let f = guards body j e in
+        elim (cases-lt j k) [
+          | inl h ↦ absurd (g .leftmost j (f .pattern) h (f .there) (f .has-all))
+          | inr h ↦
+              elim (cases-lt k j) [
+                | inl l ↦ absurd (f .leftmost k (g .pattern) l (g .there) (g .has-all))
+                | inr l ↦ let same : j ≡ k = omega arith in e ∙ ap Some same
+              ]
+        ]
