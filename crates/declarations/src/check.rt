@@ -37,7 +37,7 @@ impl Declarations {
         let Some(row) = raw.first() else {
             return Err(wrong_number);
         };
-        match read_row(row) {
+        match read_row::<T>(row) {
             Ok(terms) => Ok(Atom { predicate, terms }),
             Err(term) => Err(Refusal::TermNotAllowed { atom: index, term }),
         }
