@@ -16,6 +16,7 @@ use Rattle.std.proofs.shelf.Tests.{both-ways, or-cases, eqb-true, eq-eqb}
 use Rattle.semantics.specs.Subject.{Slot, con, var, Binding, in-slots}
 use Rattle.semantics.proofs.Fitting.{some-is, none-some}
 use Rattle.chase.specs.Chase.{fresh, fresh-slot, fresh-var}
+use Rattle.rules.proofs.Scanning.{drop-at}
 use Rattle.terms.specs.Meaning.{slot-meant}
 use Rattle.terms.specs.declared.term.PatternTerm.{PatternTerm}
 use Rattle.matching.specs.Bindings.{bound}
@@ -35,18 +36,10 @@ pub grows : (b : Binding) (n : ℕ) (ss : List Slot) → n ≤ fresh b n ss .1
 grows b n [] = omega arith
 grows b n (s ∷ ss) = omega (arith, slot-grows b n s, grows (fresh-slot b n s .0) (fresh-slot b n s .1) ss)
 
-cut : (xs : List PatternTerm) (i : ℕ) (x : PatternTerm) → nth xs i ≡ Some x → drop i xs ≡ x ∷ drop (i + 1) xs
-cut xs i x e = rw add-one (go xs i x e)
-  where
-    go : (xs : List PatternTerm) (i : ℕ) (x : PatternTerm) → nth xs i ≡ Some x → drop i xs ≡ x ∷ drop (suc i) xs
-    go [] i x e = absurd (none-some e)
-    go (y ∷ ys) zero x e = ap (λ (z : PatternTerm). z ∷ ys) (some-is e)
-    go (y ∷ ys) (suc i) x e = go ys i x e
-
 module _ (b : Binding) (n : ℕ) (xs : List PatternTerm) (i : ℕ) (x : PatternTerm) (there : nth xs i ≡ Some x) where
   -- one slot, then the others
   one : fresh b n (map slot-meant (drop i xs)) ≡ fresh (fresh-slot b n (slot-meant x) .0) (fresh-slot b n (slot-meant x) .1) (map slot-meant (drop (i + 1) xs))
-  one = ap (λ l. fresh b n (map slot-meant l)) (cut xs i x there)
+  one = ap (λ l. fresh b n (map slot-meant l)) (drop-at xs i x there)
 
   pub slot-more : (f : Fresh) → Freshened b n (slot-meant x ∷ []) (Some f) → fresh (bound (f .binding)) (f .nulls) (map slot-meant (drop (i + 1) xs)) ≡ fresh b n (map slot-meant (drop i xs))
   slot-more f h = (λ k. fresh (h .0 k) (h .1 k) (map slot-meant (drop (i + 1) xs))) ∙ sym one
