@@ -4,7 +4,7 @@ use Rattle.semantics.specs.Subject as subject
 use Rattle.terms.specs.Meaning.{term_meant}
 use Rattle.terms.specs.declared.term.Term.{Term}
 use Rattle.terms.proofs.Meant.{same_meant}
-use Rattle.terms.proofs.Same.{same_predicate}
+use Rattle.terms.specs.Same.{same_predicate}
 use Rattle.atoms.specs.Meaning.{atom_meant}
 use Rattle.rows.specs.Rows.{listed}
 use Rattle.atoms.specs.declared.atom.Atom.{Atom}

@@ -1,4 +1,6 @@
 //! Atoms: a predicate with one to four terms.
+#![tactic(auto)]
+
 pub mod atom;
 pub mod fact;
 pub mod variables;

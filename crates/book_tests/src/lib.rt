@@ -1,3 +1,5 @@
 //! What drafts and books answer on examples.
+#![tactic(auto)]
+
 #[cfg(test)]
 mod tests;

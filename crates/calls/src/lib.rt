@@ -1,4 +1,6 @@
 //! What a checker is asked and what it answers.
+#![tactic(auto)]
+
 pub mod answer;
 pub mod call;
 pub mod candidate;

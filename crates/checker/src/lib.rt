@@ -1,3 +1,5 @@
 //! The checker: slips, calls and verdicts.
+#![tactic(auto)]
+
 pub mod checker;
 pub mod slip;

@@ -1,3 +1,5 @@
 //! Tests of the checker's calls.
+#![tactic(auto)]
+
 #[cfg(test)]
 mod tests;

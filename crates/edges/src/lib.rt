@@ -1,4 +1,6 @@
 //! The edges of the definitions that the calls use, as one theorem.
+#![tactic(auto)]
+
 ghost use Rattle.edges.specs.Edges.{Edges};
 
 /// The edge cases hold. There is nothing to run: the promise is the theorem.

@@ -1,4 +1,6 @@
 //! The employee example: its rule book, its database on a flat shelf, what book, shelf and queries answer, and checks.
+#![tactic(auto)]
+
 mod calls_made;
 mod checks;
 mod personnel;

@@ -1,2 +1,4 @@
 //! The flat shelf.
+#![tactic(auto)]
+
 pub mod flat;

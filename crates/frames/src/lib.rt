@@ -1,4 +1,6 @@
 //! The frame of a bundle.
+#![tactic(auto)]
+
 mod contents;
 pub mod frame;
 mod split;

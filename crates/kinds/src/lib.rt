@@ -1,4 +1,6 @@
 //! The kinds of lines.
+#![tactic(auto)]
+
 pub mod line;
 pub mod list;
 mod parts;

@@ -1,3 +1,5 @@
 //! The atoms of a line.
+#![tactic(auto)]
+
 pub mod atom;
 pub mod sentence;

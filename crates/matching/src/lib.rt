@@ -1,3 +1,5 @@
 //! How several patterns fit atoms of a stock.
+#![tactic(auto)]
+
 pub mod find;
 pub mod places;

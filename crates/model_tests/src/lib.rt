@@ -1,3 +1,5 @@
 //! Tests of the checker on the personnel catalogue.
+#![tactic(auto)]
+
 #[cfg(test)]
 mod tests;

@@ -1,2 +1,4 @@
 //! Overlays: shelves on shelves.
+#![tactic(auto)]
+
 pub mod overlay;

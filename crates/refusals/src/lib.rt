@@ -1,2 +1,4 @@
 //! Why a call was refused.
+#![tactic(auto)]
+
 pub mod refusal;

@@ -1,3 +1,5 @@
 //! Whether a pile refutes a query.
+#![tactic(auto)]
+
 pub mod refute;
 mod satisfied;

@@ -1,2 +1,4 @@
 //! Rows of one to four of a kind.
+#![tactic(auto)]
+
 pub mod row;

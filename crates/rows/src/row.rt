@@ -2,8 +2,10 @@
 ghost use Rattle.std.specs.List.{slice_get};
 ghost use Rattle.std.specs.Prelude.{◌≡◌, length, Decides};
 ghost use Rattle.rows.specs.Rows.{listed, Deciding};
-ghost use Rattle.std.specs.Cmp.Rules.{comparing};
-ghost use Rattle.std.proofs.Common.{rules};
+ghost use Rattle.std.specs.Cmp.{on_per};
+ghost use Rattle.std.specs.Cmp.Lexicographic.{lists_per};
+ghost use Rattle.std.specs.Ordering.{on};
+ghost use lib.Pointwise.{pointwise};
 
 /// One to four of a kind, in order.
 #[derive(Clone, Copy)]
@@ -60,11 +62,14 @@ impl<T: Copy> Row<T> {
 
 /// `==` decides equality wherever it does so for the elements.
 impl<T: PartialEq + Copy> PartialEq for Row<T> {
-    ghost equals = { λ x y r. Deciding T.PartialEq.equals → Decides r (x ≡ y) };
+    ghost eq = { on listed (pointwise T.PartialEq.eq) };
 
-    ghost laws = { Prim.search (comparing, rules) };
+    ghost laws = { on_per listed (lists_per T.PartialEq.laws) };
 
-    fn eq(&self, other: &Row<T>) -> bool {
+    fn eq(&self, other: &Row<T>) -> bool
+        ensures value { result ≡ pointwise T.PartialEq.eq (listed self.now) (listed other.now) }
+        ensures same { Deciding (λ x y r. r ≡ T.PartialEq.eq x y) → Decides result (self.now ≡ other.now) }
+    {
         match *self {
             Row::One(a) => match *other {
                 Row::One(x) => a == x,

@@ -1,2 +1,4 @@
 //! Rules, each with its guard.
+#![tactic(auto)]
+
 pub mod rule;

@@ -1,4 +1,6 @@
 //! Runs of calls over a pool of slips, and the law over all that a checker has met.
+#![tactic(auto)]
+
 pub mod conduct;
 mod perform;
 pub mod pool;

@@ -23,7 +23,10 @@ same_bool true b f g = sym (f refl)
 same_bool false true f g = g refl
 same_bool false false f g = refl
 
--- what `fit-slot` and `fit-slots` give
+eqb_turned : (i j : ℕ) → eqb j i ≡ eqb i j
+eqb_turned i j = same_bool (eqb j i) (eqb i j) (λ e. eq-eqb i j (sym (eqb-true j i e))) (λ e. eq-eqb j i (sym (eqb-true i j e)))
+
+-- what `fit_slot` and `fit_slots` give
 pub record Grown (b c : Binding) (Got : Type 0) (new : ℕ → Bool) : Type 0 where
   pub gives : Got
   pub more : Extends b c
@@ -37,15 +40,18 @@ module _ (b : Binding) (j t : ℕ) where
   pub put_here : put j ≡ Some t
   put_here = rw (eq-eqb j j refl)
 
+  put_turned : (i : ℕ) → put i ≡ cond (eqb i j) (Some t) (b i)
+  put_turned i = ap (λ w. cond w (Some t) (b i)) (eqb_turned i j)
+
   pub put_keeps : b j ≡ None → Extends b put
-  put_keeps free i u h = go (eqb i j) refl
+  put_keeps free i u h = put_turned i ∙ go (eqb i j) refl
     where
       go : (w : Bool) → eqb i j ≡ w → cond w (Some t) (b i) ≡ Some u
       go true q = absurd (none_some (sym free ∙ ap b (sym (eqb-true i j q)) ∙ h))
       go false q = h
 
   pub put_exact : (i : ℕ) → is_some (put i) ≡ (is_some (b i) || eqb i j)
-  put_exact i = go (eqb i j)
+  put_exact i = ap is_some (put_turned i) ∙ go (eqb i j)
     where
       go : (w : Bool) → is_some (cond w (Some t) (b i)) ≡ (is_some (b i) || w)
       go true = sym (or-true (is_some (b i)))
@@ -53,7 +59,7 @@ module _ (b : Binding) (j t : ℕ) where
 
   -- what put binds is the new term, or was bound
   pub put_cases : (i u : ℕ) → put i ≡ Some u → ((i ≡ j) × (t ≡ u)) ⊎ (b i ≡ Some u)
-  put_cases i u = go (eqb i j) refl
+  put_cases i u e = go (eqb i j) refl (sym (put_turned i) ∙ e)
     where
       go : (w : Bool) → eqb i j ≡ w → cond w (Some t) (b i) ≡ Some u → ((i ≡ j) × (t ≡ u)) ⊎ (b i ≡ Some u)
       go true q h = inl (eqb-true i j q, some_is h)

@@ -1,4 +1,6 @@
 //! Tests of the shelves, and what they share.
+#![tactic(auto)]
+
 #[cfg(test)]
 mod flat;
 #[cfg(test)]

@@ -1,4 +1,6 @@
 //! Stocks and shelves of ground atoms.
+#![tactic(auto)]
+
 pub mod lent;
 pub mod placed;
 pub mod record;

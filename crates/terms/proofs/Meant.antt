@@ -3,7 +3,7 @@ use Rattle.std.proofs.Common.{◌≡◌, ap, arith}
 use Rattle.terms.specs.Meaning.{term_meant}
 use Rattle.terms.specs.declared.term.Term.{Term}
 use Rattle.terms.specs.declared.term.Term.TheVariants.{Constant, Null}
-use Rattle.terms.proofs.Same.{same_constant, same_null}
+use Rattle.terms.specs.Same.{same_constant, same_null}
 
 pub same_meant : (t u : Term) → term_meant t ≡ term_meant u → t ≡ u
 same_meant (Constant c) (Constant d) e = ap Constant (same_constant c d e)

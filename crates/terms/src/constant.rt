@@ -1,7 +1,7 @@
 //! Constants.
 ghost use Rattle.std.specs.Prelude.{◌≡◌, ◌≤◌, Decides, MatchOption, ◌==◌};
 ghost use Rattle.std.specs.Cmp.Rules.{comparing};
-ghost use Rattle.std.proofs.Common.{rules, arith};
+ghost use Rattle.std.proofs.Common.{rules};
 
 /// A constant: a number from 1 to 999,999.
 #[derive(Clone, Copy)]
@@ -38,11 +38,14 @@ impl Constant {
 }
 
 impl PartialEq for Constant {
-    ghost equals = { λ x y r. Decides r (x ≡ y) };
+    ghost eq = { λ x y. y.number == x.number };
 
-    ghost laws = { first_of (Prim.search (comparing, rules), Prim.grind (arith, Self.row.coded.inj)) };
+    ghost laws = { Prim.search (comparing, rules) };
 
-    fn eq(&self, other: &Constant) -> bool {
+    fn eq(&self, other: &Constant) -> bool
+        ensures value { result ≡ (other.now.number == self.now.number) }
+        ensures same { Decides result (self.now ≡ other.now) }
+    {
         self.agrees(*other)
     }
 }

@@ -1,4 +1,6 @@
 //! Constants, nulls and variables, and the terms that are made of them.
+#![tactic(auto)]
+
 pub mod constant;
 pub mod null;
 pub mod predicate;

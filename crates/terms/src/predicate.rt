@@ -1,7 +1,7 @@
 //! The numbers of predicates.
 ghost use Rattle.std.specs.Prelude.{◌≡◌, ◌≤◌, Decides, MatchOption, ◌==◌};
 ghost use Rattle.std.specs.Cmp.Rules.{comparing};
-ghost use Rattle.std.proofs.Common.{rules, arith};
+ghost use Rattle.std.proofs.Common.{rules};
 
 /// A predicate: a number from 1 to 64.
 #[derive(Clone, Copy)]
@@ -40,11 +40,14 @@ impl Predicate {
 }
 
 impl PartialEq for Predicate {
-    ghost equals = { λ x y r. Decides r (x ≡ y) };
+    ghost eq = { λ x y. y.number == x.number };
 
-    ghost laws = { first_of (Prim.search (comparing, rules), Prim.grind (arith, Self.row.coded.inj)) };
+    ghost laws = { Prim.search (comparing, rules) };
 
-    fn eq(&self, other: &Predicate) -> bool {
+    fn eq(&self, other: &Predicate) -> bool
+        ensures value { result ≡ (other.now.number == self.now.number) }
+        ensures same { Decides result (self.now ≡ other.now) }
+    {
         self.agrees(*other)
     }
 }

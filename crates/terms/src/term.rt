@@ -1,7 +1,7 @@
 //! The terms of ground atoms and of patterns.
 ghost use Rattle.std.specs.Prelude.{◌≡◌, Decides};
-ghost use Rattle.std.specs.Cmp.Rules.{comparing};
-ghost use Rattle.std.proofs.Common.{rules};
+ghost use Rattle.terms.specs.Equal.{term_eq, pattern_term_eq};
+ghost use Rattle.terms.specs.Deciding.{decides_per, term_decides, pattern_term_decides};
 
 use crate::constant::Constant;
 use crate::null::Null;
@@ -22,11 +22,14 @@ pub enum PatternTerm {
 }
 
 impl PartialEq for Term {
-    ghost equals = { λ x y r. Decides r (x ≡ y) };
+    ghost eq = { term_eq };
 
-    ghost laws = { Prim.search (comparing, rules) };
+    ghost laws = { decides_per term_eq term_decides };
 
-    fn eq(&self, other: &Term) -> bool {
+    fn eq(&self, other: &Term) -> bool
+        ensures value { result ≡ term_eq self.now other.now }
+        ensures same { Decides result (self.now ≡ other.now) }
+    {
         match *self {
             Term::Constant(a) => match *other {
                 Term::Constant(b) => a == b,
@@ -41,11 +44,14 @@ impl PartialEq for Term {
 }
 
 impl PartialEq for PatternTerm {
-    ghost equals = { λ x y r. Decides r (x ≡ y) };
+    ghost eq = { pattern_term_eq };
 
-    ghost laws = { Prim.search (comparing, rules) };
+    ghost laws = { decides_per pattern_term_eq pattern_term_decides };
 
-    fn eq(&self, other: &PatternTerm) -> bool {
+    fn eq(&self, other: &PatternTerm) -> bool
+        ensures value { result ≡ pattern_term_eq self.now other.now }
+        ensures same { Decides result (self.now ≡ other.now) }
+    {
         match *self {
             PatternTerm::Constant(a) => match *other {
                 PatternTerm::Constant(b) => a == b,

@@ -1,7 +1,7 @@
 //! Variables.
 ghost use Rattle.std.specs.Prelude.{◌≡◌, ◌+◌, ◌≤◌, Decides, MatchOption, ◌==◌};
 ghost use Rattle.std.specs.Cmp.Rules.{comparing};
-ghost use Rattle.std.proofs.Common.{rules, arith};
+ghost use Rattle.std.proofs.Common.{rules};
 
 /// One of the variables v1 to v8, by its index from 0.
 #[derive(Clone, Copy)]
@@ -48,11 +48,14 @@ impl Variable {
 }
 
 impl PartialEq for Variable {
-    ghost equals = { λ x y r. Decides r (x ≡ y) };
+    ghost eq = { λ x y. y.index == x.index };
 
-    ghost laws = { first_of (Prim.search (comparing, rules), Prim.grind (arith, Self.row.coded.inj)) };
+    ghost laws = { Prim.search (comparing, rules) };
 
-    fn eq(&self, other: &Variable) -> bool {
+    fn eq(&self, other: &Variable) -> bool
+        ensures value { result ≡ (other.now.index == self.now.index) }
+        ensures same { Decides result (self.now ≡ other.now) }
+    {
         self.agrees(*other)
     }
 }

@@ -1,3 +1,5 @@
 //! The words of a line.
+#![tactic(auto)]
+
 pub mod reader;
 pub mod word;

@@ -5,7 +5,7 @@ use Rattle.semantics.specs.Computed.{fit, fit_slots}
 use Rattle.semantics.proofs.Fitting.{fit_fitted}
 use Rattle.atoms.specs.Meaning.{atom_meant, pattern_meant}
 use Rattle.terms.specs.declared.predicate.Predicate.{Predicate}
-use Rattle.terms.proofs.Same.{same_predicate}
+use Rattle.terms.specs.Same.{same_predicate}
 use Rattle.fitting.specs.Bindings.{bound}
 use Rattle.fitting.proofs.fit.fit.Goals as goal
 

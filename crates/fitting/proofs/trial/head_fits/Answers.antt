@@ -1,6 +1,6 @@
 use Rattle.std.proofs.Common.{◌≡◌, Bool, true, false, not, sym, refl, ap, ◌∙◌}
 use Rattle.std.proofs.lemmas.Bool.{false≢true}
-use Rattle.terms.proofs.Same.{same_predicate}
+use Rattle.terms.specs.Same.{same_predicate}
 use Rattle.fitting.proofs.trial.head_fits.Goals as goal
 
 pub returns-then-ne : goal.returns-then-ne

@@ -1,6 +1,6 @@
 use Rattle.std.proofs.Common.{◌≡◌, ◌≤◌, Option, subst, MatchOption}
 use Rattle.terms.specs.declared.constant.Constant.{Constant}
-use Rattle.terms.proofs.Same.{same_constant}
+use Rattle.terms.specs.Same.{same_constant}
 use Rattle.shelves.specs.Blank.{first_constant}
 use Rattle.shelves.proofs.record.first_constant.Goals as goal
 

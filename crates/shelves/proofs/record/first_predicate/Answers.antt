@@ -1,6 +1,6 @@
 use Rattle.std.proofs.Common.{◌≡◌, ◌≤◌, Option, subst, MatchOption}
 use Rattle.terms.specs.declared.predicate.Predicate.{Predicate}
-use Rattle.terms.proofs.Same.{same_predicate}
+use Rattle.terms.specs.Same.{same_predicate}
 use Rattle.shelves.specs.Blank.{first_predicate}
 use Rattle.shelves.proofs.record.first_predicate.Goals as goal
 

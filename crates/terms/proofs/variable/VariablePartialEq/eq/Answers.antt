@@ -1,8 +1,8 @@
 use Rattle.std.proofs.Common.{sym, ap, ◌∙◌}
 use Rattle.std.proofs.lemmas.Bool.{eqb-true, eq-eqb}
 use Rattle.terms.specs.declared.variable.Variable.{Variable}
-use Rattle.terms.proofs.Same.{same_variable}
+use Rattle.terms.specs.Same.{same_variable}
 use Rattle.terms.proofs.variable.VariablePartialEq.eq.Goals as goal
 
-pub returns : goal.returns
-returns c = (λ t. same_variable c.args.self.now c.args.other.now (sym (eqb-true _ _ (sym c.agrees.ensures ∙ t))), λ e. c.agrees.ensures ∙ eq-eqb _ _ (sym (ap (λ (x : Variable). x.index) e)))
+pub returns-clause-same : goal.returns-clause-same
+returns-clause-same c = (λ t. same_variable c.args.self.now c.args.other.now (sym (eqb-true _ _ (sym c.agrees.ensures ∙ t))), λ e. c.agrees.ensures ∙ eq-eqb _ _ (sym (ap (λ (x : Variable). x.index) e)))
