@@ -61,10 +61,7 @@ impl Sort for PatternTerm {
 fn read_at<T: Sort>(raw: RawTerm, index: usize) -> Result<T, usize>
     ensures { ReadsAt T.Sort.written raw index result }
 {
-    match T::read(raw) {
-        Some(term) => Ok(term),
-        None => Err(index),
-    }
+    T::read(raw).ok_or(index)
 }
 
 /// The terms that are written so; else the lowest index at which none is.

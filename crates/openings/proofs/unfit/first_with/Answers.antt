@@ -6,25 +6,25 @@ use Rattle.openings.specs.Filters.{slot_of}
 use Rattle.openings.proofs.Judging.{none_unfit, past_unfit}
 use Rattle.openings.proofs.Marking.{marked_past, marked_more, slot_below}
 use Rattle.openings.proofs.unfit.first_with.Goals as goal
-use Rattle.openings.proofs.unfit.first_with.Goals.{in-Some+else-is-unfit, in-default}
+use Rattle.openings.proofs.unfit.first_with.Goals.{in-Some+else-is_unfit, in_default}
 
-pub returns-then-is-unfit : goal.returns-then-is-unfit
-returns-then-is-unfit g c = (c.if-is-unfit.ensures.0 refl, c.loop-place.invariant.0)
+pub returns-then-is_unfit : goal.returns-then-is_unfit
+returns-then-is_unfit g c = (c.if-is_unfit.ensures.0 refl, c.loop-place.invariant.0)
 
 pub loop-place-preserved : goal.loop-place-preserved
 loop-place-preserved g c =
     let xs = g.S.Stock.list c.args.stock.now in
     let place = c.loop-place.place in
     elim c.match-get.branch [
-      | in-Some+else-is-unfit w ↦
+      | in-Some+else-is_unfit w ↦
           let a = w.in-Some.atom in
           let inside : slot_of (atom_meant a) < length c.loop-place.seen = omega (arith, slot_below (atom_meant a), c.requires, c.loop-place.auto.seen) in (
-            below_more _ _ c.loop-place.invariant.0 (λ u. false≢true (w.if-is-unfit.ensures.1 u)),
+            below_more _ _ c.loop-place.invariant.0 (λ u. false≢true (w.if-is_unfit.ensures.1 u)),
             marked_more c.loop-place.seen xs place c.loop-place.invariant.1 a c.match-get.seen w.in-Some.ensures inside (◌∙◌ {c = set c.loop-place.seen (slot_of (atom_meant a)) true} w.seen-is w.mark.ensures),
           )
-      | in-default w ↦ (
-        below_more _ _ c.loop-place.invariant.0 (none_unfit (predicates_of c.args.book.now) xs place w.in-default.ensures),
-        marked_past c.loop-place.seen xs place c.loop-place.invariant.1 c.match-get.seen w.in-default.ensures w.seen-is,
+      | in_default w ↦ (
+        below_more _ _ c.loop-place.invariant.0 (none_unfit (predicates_of c.args.book.now) xs place w.in_default.ensures),
+        marked_past c.loop-place.seen xs place c.loop-place.invariant.1 c.match-get.seen w.in_default.ensures w.seen-is,
       )
     ]
 

@@ -4,7 +4,7 @@ use Rattle.refutes.proofs.Satisfies.{satisfied_all}
 use Rattle.refutes.proofs.refute.first_unsatisfied.Goals as goal
 
 pub loop-place-preserved : goal.loop-place-preserved
-loop-place-preserved g c = below_more _ _ c.loop-place.invariant (c.if-not-satisfied-at.ensures.0 refl)
+loop-place-preserved g c = below_more _ _ c.loop-place.invariant (c.if-not-satisfied_at.ensures.0 refl)
 
 pub returns : goal.returns
 returns g c =

@@ -11,6 +11,6 @@ use Rattle.refutes.proofs.refute.has_match.Goals as goal
 pub returns : goal.returns
 returns g c =
     let m = On (pile (g.S.Stock.list c.args.stock.now)) in
-    let o = c.find-match.result in
-    found_decides m (patterns_meant c.args.patterns.now) o c.is-some.result c.is-some.ensures
-    (subst (λ ps. Searched m (map pattern_meant ps) (option_map bound o)) c.as-slice.ensures c.find-match.ensures.matched)
+    let o = c.find_match.result in
+    found_decides m (patterns_meant c.args.patterns.now) o c.is_some.result c.is_some.ensures
+    (subst (λ ps. Searched m (map pattern_meant ps) (option_map bound o)) c.as_slice.ensures c.find_match.ensures.matched)

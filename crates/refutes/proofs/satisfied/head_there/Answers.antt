@@ -5,17 +5,17 @@ use Rattle.semantics.proofs.Fitting.{some_is, none_some}
 use Rattle.atoms.specs.Meaning.{atom_meant, pattern_meant}
 use Rattle.fitting.specs.Bindings.{bound}
 use Rattle.refutes.proofs.Satisfies.{there_meant, within}
-use Rattle.refutes.proofs.satisfied.head_there.Goals.{in-Some+else-head-fits, in-default}
+use Rattle.refutes.proofs.satisfied.head_there.Goals.{in-Some+else-head_fits, in_default}
 use Rattle.refutes.proofs.satisfied.head_there.Goals as goal
 
-pub returns-then-head-fits : goal.returns-then-head-fits
-returns-then-head-fits g c =
+pub returns-then-head_fits : goal.returns-then-head_fits
+returns-then-head_fits g c =
     let xs = g.S.Stock.list c.args.stock.now in
     let a = c.in-Some.atom in (
       λ _. (
         atom_meant a,
         (c.loop-place.place, there_meant xs c.loop-place.place (Some a) c.in-Some.ensures),
-        subst (λ b. Fittable (bound b) (pattern_meant c.args.head.now) (atom_meant a)) c.loop-place.invariant.0 (c.if-head-fits.ensures.answer.0 refl),
+        subst (λ b. Fittable (bound b) (pattern_meant c.args.head.now) (atom_meant a)) c.loop-place.invariant.0 (c.if-head_fits.ensures.answer.0 refl),
       ),
       λ _. refl,
     )
@@ -26,17 +26,17 @@ loop-place-preserved g c =
     let k = c.loop-place.place in
     let h = pattern_meant c.args.head.now in
     elim c.match-get.branch [
-      | in-Some+else-head-fits w ↦ (
-        w.binding-is ∙ w.head-fits.ensures.same ∙ c.loop-place.invariant.0,
+      | in-Some+else-head_fits w ↦ (
+        w.binding-is ∙ w.head_fits.ensures.same ∙ c.loop-place.invariant.0,
         below_more _ _ c.loop-place.invariant.1
             (λ a e f.
             let same = some_is (sym (there_meant xs k (Some w.in-Some.atom) w.in-Some.ensures) ∙ e) in
             let start = subst (λ b. Fittable (bound b) h a) (sym c.loop-place.invariant.0) f in
-            false≢true (w.if-head-fits.ensures.answer.1 (subst (Fittable (bound c.loop-place.binding) h) (sym same) start))),
+            false≢true (w.if-head_fits.ensures.answer.1 (subst (Fittable (bound c.loop-place.binding) h) (sym same) start))),
       )
-      | in-default w ↦ (
+      | in_default w ↦ (
         ◌∙◌ {b = c.loop-place.binding} w.binding-is c.loop-place.invariant.0,
-        below_more _ _ c.loop-place.invariant.1 (λ a e f. none_some (sym (there_meant xs k None w.in-default.ensures) ∙ e)),
+        below_more _ _ c.loop-place.invariant.1 (λ a e f. none_some (sym (there_meant xs k None w.in_default.ensures) ∙ e)),
       )
     ]
 

@@ -18,9 +18,9 @@ returns g c =
     let x = c.exchange-held.ensures in
     let r = c.refill.ensures in
     record {
-      done = held_used (see c.args.checker.now) (see c.use-held-event.new.checker) pool _ c.args.call c.args.slot c.use-held-event.result.event c.use-held-event.result.back c.requires
-          (subst (λ h. Used (see c.args.checker.now) h c.args.call c.use-held-event.result.event (see c.use-held-event.new.checker) c.use-held-event.result.back) x.value c.use-held-event.ensures)
-          (r.items ∙ ap (λ xs. set xs c.args.slot c.use-held-event.result.back) x.items);
+      done = held_used (see c.args.checker.now) (see c.use_held-event.new.checker) pool _ c.args.call c.args.slot c.use_held-event.result.event c.use_held-event.result.back c.requires
+          (subst (λ h. Used (see c.args.checker.now) h c.args.call c.use_held-event.result.event (see c.use_held-event.new.checker) c.use_held-event.result.back) x.value c.use_held-event.ensures)
+          (r.items ∙ ap (λ xs. set xs c.args.slot c.use_held-event.result.back) x.items);
       len = r.len ∙ x.len;
       room = r.room ∙ x.room;
     }

@@ -11,7 +11,7 @@ loop-call-preserved g c =
     let a = c.args in
     let l = c.loop-call in
     let p = c.perform-event in
-    let n = c.push-reserved in (
+    let n = c.push_reserved in (
       onward (see a.checker.now) (see l.checker) (see p.new.checker) (vec_items a.pool.now) (vec_items l.pool) (vec_items p.new.pool) a.calls.now (vec_items a.log.now) (vec_items l.log) (vec_items n.new.self) l.call-index c.call-item.result p.result
           c.loop-call-test.true (sym c.call-item.is) l.invariant.0 p.ensures.done n.ensures.items,
       omega (arith, l.invariant.1, p.ensures.len, p.ensures.room, c.loop-call-test.true),

@@ -7,4 +7,4 @@ use Rattle.steps.proofs.head.with_nulls.Given as goal
 
 -- what is left gives the whole
 abbrev pub invariant-loop-i : goal.invariant-loop-i
-invariant-loop-i l = fresh (bound l.now-fresh.binding) l.now-fresh.nulls (map slot_meant (drop l.i (listed l.head.terms))) ≡ fresh (bound l.initial.now-fresh.binding) l.initial.now-fresh.nulls (map slot_meant (listed l.head.terms))
+invariant-loop-i l = fresh (bound l.now_fresh.binding) l.now_fresh.nulls (map slot_meant (drop l.i (listed l.head.terms))) ≡ fresh (bound l.initial.now_fresh.binding) l.initial.now_fresh.nulls (map slot_meant (listed l.head.terms))

@@ -31,36 +31,36 @@ guarded r = guards (patterns_meant r.body) r.guard (guard_at (patterns_meant r.b
 same_guard : (r : Rule) (p : Atom PatternTerm) → slice_get (patterns_listed r.body) r.guard ≡ Some p → pattern_meant p ≡ (guarded r).pattern
 same_guard r p e = some_is (sym (nth_map pattern_meant (patterns_listed r.body) r.guard ∙ ap (option_map pattern_meant) e) ∙ (guarded r).there)
 
-pub returns-in-err-binding : goal.returns-in-err-binding
-returns-in-err-binding g c =
+pub returns-in_err-binding : goal.returns-in_err-binding
+returns-in_err-binding g c =
     let xs = pile (g.S.Stock.list c.args.stock.now) in
     let r = c.args.rule.now in
-    let p = c.guard-pattern.result.now in
-    let e = err_from_is_err_and c.from-residual.result c.from-residual.ensures.1 in
+    let p = c.guard_pattern.result.now in
+    let e = err_from_is_err_and c.from_residual.result c.from_residual.ensures.1 in
     subst (Judged xs (rule_meant r) c.args.place c.args.nulls) (sym (e.1 ∙ ap Err e.2))
-    (stopped (not_fired xs (rule_meant r) c.args.place r.guard (guarded r) (pattern_meant p) (same_guard r p c.guard-pattern.ensures) _
-    (subst (λ b. NotFitted xs b 0 (pattern_meant p) c.args.place c.in-err-binding.field-0.0) (fun_ext c.unbound.ensures) c.in-err-binding.ensures)))
+    (stopped (not_fired xs (rule_meant r) c.args.place r.guard (guarded r) (pattern_meant p) (same_guard r p c.guard_pattern.ensures) _
+    (subst (λ b. NotFitted xs b 0 (pattern_meant p) c.args.place c.in_err-binding.field-0.0) (fun_ext c.unbound.ensures) c.in_err-binding.ensures)))
 
 pub returns-in-Some : goal.returns-in-Some
 returns-in-Some g c =
     let xs = pile (g.S.Stock.list c.args.stock.now) in
     let r = c.args.rule.now in
-    let p = c.guard-pattern.result.now in
-    let b = bound c.in-ok-binding.binding in
-    let f : FittedAt xs nothing 0 (pattern_meant p) c.args.place (Ok b) = subst (λ d. FittedAt xs d 0 (pattern_meant p) c.args.place (Ok b)) (fun_ext c.unbound.ensures) c.in-ok-binding.ensures in
-    stopped (side_missing xs (rule_meant r) c.args.place r.guard (guarded r) (pattern_meant p) (same_guard r p c.guard-pattern.ensures) f.0 b f.1 f.2 _ c.in-Some.pattern (refl, refl, refl)
+    let p = c.guard_pattern.result.now in
+    let b = bound c.in_ok-binding.binding in
+    let f : FittedAt xs nothing 0 (pattern_meant p) c.args.place (Ok b) = subst (λ d. FittedAt xs d 0 (pattern_meant p) c.args.place (Ok b)) (fun_ext c.unbound.ensures) c.in_ok-binding.ensures in
+    stopped (side_missing xs (rule_meant r) c.args.place r.guard (guarded r) (pattern_meant p) (same_guard r p c.guard_pattern.ensures) f.0 b f.1 f.2 _ c.in-Some.pattern (refl, refl, refl)
     (subst (λ ps. FirstMissing xs b (map pattern_meant ps) (Some c.in-Some.pattern)) c.body.ensures c.in-Some.ensures))
 
 pub returns-in-Some-bear : goal.returns-in-Some-bear
 returns-in-Some-bear g c =
     let xs = pile (g.S.Stock.list c.args.stock.now) in
     let r = c.args.rule.now in
-    let p = c.guard-pattern.result.now in
-    let b = bound c.in-ok-binding.binding in
-    let f : FittedAt xs nothing 0 (pattern_meant p) c.args.place (Ok b) = subst (λ d. FittedAt xs d 0 (pattern_meant p) c.args.place (Ok b)) (fun_ext c.unbound.ensures) c.in-ok-binding.ensures in (
+    let p = c.guard_pattern.result.now in
+    let b = bound c.in_ok-binding.binding in
+    let f : FittedAt xs nothing 0 (pattern_meant p) c.args.place (Ok b) = subst (λ d. FittedAt xs d 0 (pattern_meant p) c.args.place (Ok b)) (fun_ext c.unbound.ensures) c.in_ok-binding.ensures in (
       b,
-      fires xs (rule_meant r) c.args.place r.guard (guarded r) (pattern_meant p) (same_guard r p c.guard-pattern.ensures) f.0 b f.1 f.2
-          (subst (λ ps. FirstMissing xs b (map pattern_meant ps) None) c.body.ensures c.in-default.ensures),
+      fires xs (rule_meant r) c.args.place r.guard (guarded r) (pattern_meant p) (same_guard r p c.guard_pattern.ensures) f.0 b f.1 f.2
+          (subst (λ ps. FirstMissing xs b (map pattern_meant ps) None) c.body.ensures c.in_default.ensures),
       subst (λ h. Borne b c.args.nulls (pattern_meant h) (Some c.in-Some-bear.head)) c.head.ensures c.in-Some-bear.ensures,
     )
 
@@ -68,10 +68,10 @@ pub returns-in-None : goal.returns-in-None
 returns-in-None g c =
     let xs = pile (g.S.Stock.list c.args.stock.now) in
     let r = c.args.rule.now in
-    let p = c.guard-pattern.result.now in
-    let b = bound c.in-ok-binding.binding in
-    let f : FittedAt xs nothing 0 (pattern_meant p) c.args.place (Ok b) = subst (λ d. FittedAt xs d 0 (pattern_meant p) c.args.place (Ok b)) (fun_ext c.unbound.ensures) c.in-ok-binding.ensures in
+    let p = c.guard_pattern.result.now in
+    let b = bound c.in_ok-binding.binding in
+    let f : FittedAt xs nothing 0 (pattern_meant p) c.args.place (Ok b) = subst (λ d. FittedAt xs d 0 (pattern_meant p) c.args.place (Ok b)) (fun_ext c.unbound.ensures) c.in_ok-binding.ensures in
     no_null b (refl, refl, refl)
-    (fires xs (rule_meant r) c.args.place r.guard (guarded r) (pattern_meant p) (same_guard r p c.guard-pattern.ensures) f.0 b f.1 f.2
-    (subst (λ ps. FirstMissing xs b (map pattern_meant ps) None) c.body.ensures c.in-default.ensures))
+    (fires xs (rule_meant r) c.args.place r.guard (guarded r) (pattern_meant p) (same_guard r p c.guard_pattern.ensures) f.0 b f.1 f.2
+    (subst (λ ps. FirstMissing xs b (map pattern_meant ps) None) c.body.ensures c.in_default.ensures))
     (subst (λ h. Borne b c.args.nulls (pattern_meant h) None) c.head.ensures c.in-None.ensures)

@@ -8,15 +8,15 @@ use Rattle.protocol.specs.Calls.{no_query, unfit_shelf}
 use Rattle.checker.proofs.Judging.{entry_none, entry_some, in_range}
 use Rattle.checker.proofs.checker.Checker.judge_open.Goals as goal
 
-pub returns-in-default-query : goal.returns-in-default-query
-returns-in-default-query g c =
-    no_query (refl, refl, refl) c.in-Shut.is (entry_none patterns_meant (entries c.args.self.now.book.queries) c.args.query c.in-default-query.ensures)
+pub returns-in_default-query : goal.returns-in_default-query
+returns-in_default-query g c =
+    no_query (refl, refl, refl) c.in-Shut.is (entry_none patterns_meant (entries c.args.self.now.book.queries) c.args.query c.in_default-query.ensures)
 
-pub returns-in-Some-first-unfit : goal.returns-in-Some-first-unfit
-returns-in-Some-first-unfit g c =
+pub returns-in-Some-first_unfit : goal.returns-in-Some-first_unfit
+returns-in-Some-first_unfit g c =
     let d = c.args.self.now in
-    unfit_shelf c.in-Some-first-unfit.place _ (refl, refl, refl) c.in-Shut.is (entry_some patterns_meant (entries d.book.queries) c.args.query c.in-Some.field-0.now c.in-Some.ensures)
-    (subst (λ s. FirstUnfit (predicates_of d.book) (pile (g.S.Stock.list s)) (Some c.in-Some-first-unfit.place)) c.below.ensures c.in-Some-first-unfit.ensures)
+    unfit_shelf c.in-Some-first_unfit.place _ (refl, refl, refl) c.in-Shut.is (entry_some patterns_meant (entries d.book.queries) c.args.query c.in-Some.field-0.now c.in-Some.ensures)
+    (subst (λ s. FirstUnfit (predicates_of d.book) (pile (g.S.Stock.list s)) (Some c.in-Some-first_unfit.place)) c.below.ensures c.in-Some-first_unfit.ensures)
 
 pub returns-in-None : goal.returns-in-None
 returns-in-None g c =

@@ -12,12 +12,12 @@ returns-in-At g c =
       below = e.below;
     }
 
-pub returns-in-default : goal.returns-in-default
-returns-in-default g c =
+pub returns-in_default : goal.returns-in_default
+returns-in_default g c =
     let d = c.args.self.now in
     let e = c.put-placed.ensures in
     record {
-      put = atom_put_old g.S.Stock.list g.S.Shelf.free d.book d.number d.check d.pile c.put-placed.new.self d.nulls c.args.nulls c.args.atom c.put-placed.result e.puts e.below e.own c.in-default.not-At;
+      put = atom_put_old g.S.Stock.list g.S.Shelf.free d.book d.number d.check d.pile c.put-placed.new.self d.nulls c.args.nulls c.args.atom c.put-placed.result e.puts e.below e.own c.in_default.not-At;
       full = λ f. same_checker _ d refl (e.full f) refl refl refl;
       below = e.below;
     }

@@ -7,7 +7,7 @@ returns-in-Ok g c =
     let d = c.args.self.now in
     let low = c.in-Ok.ensures in
     record {
-      put = fact_put g.S.Stock.list g.S.Shelf.free d.book d.number d.check d.pile c.put-below.new.self d.nulls c.args.atom c.in-Ok.placed (g.S.Stock.short _) low;
+      put = fact_put g.S.Stock.list g.S.Shelf.free d.book d.number d.check d.pile c.put_below.new.self d.nulls c.args.atom c.in-Ok.placed (g.S.Stock.short _) low;
       full = λ e. same_checker _ d refl (low.3 e) refl refl refl;
       own = low.2;
     }

@@ -6,11 +6,11 @@ use Rattle.declarations.proofs.Checking.{stops_at_term}
 use Rattle.declarations.proofs.Numbered.{numbered_out, short_front}
 use Rattle.declarations.proofs.declarations.Declarations.check.Goals as goal
 
-pub returns-in-default : goal.returns-in-default
-returns-in-default g c =
+pub returns-in_default : goal.returns-in_default
+returns-in_default g c =
     let short = short_front arity_value c.args.self.now.items c.args.self.now.count in
     let e = c.predicate-number.ensures in
-    undeclared (numbered_out (arities_of c.args.self.now) c.args.raw.now.predicate (λ h. c.in-default.ensures (omega arith, omega arith))) (refl, refl, e)
+    undeclared (numbered_out (arities_of c.args.self.now) c.args.raw.now.predicate (λ h. c.in_default.ensures (omega arith, omega arith))) (refl, refl, e)
 
 pub returns-then-number-count : goal.returns-then-number-count
 returns-then-number-count g c =

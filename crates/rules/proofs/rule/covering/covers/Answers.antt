@@ -6,14 +6,14 @@ use Rattle.rows.specs.Rows.{listed}
 use Rattle.rules.specs.Covering.{slots_meant}
 use Rattle.rules.proofs.Scanning.{covers_more, covers_stops, nth_within}
 use Rattle.rules.proofs.rule.covering.covers.Goals as goal
-use Rattle.rules.proofs.rule.covering.covers.Goals.{in-Some+else-not-covered, in-default}
+use Rattle.rules.proofs.rule.covering.covers.Goals.{in-Some+else-not-covered, in_default}
 
 pub loop-i-preserved : goal.loop-i-preserved
 loop-i-preserved c =
     let ts = listed c.args.other.now.terms in
     elim c.match-get.branch [
       | in-Some+else-not-covered w ↦ covers_more ts c.loop-i.i w.in-Some.term (slots_meant c.args.pattern.now) (sym c.get.ensures ∙ w.in-Some.is) (sym w.covered.ensures ∙ w.if-not-covered.false) ∙ c.loop-i.invariant
-      | in-default w ↦ absurd (nth_within ts c.loop-i.i (sym c.get.ensures ∙ w.in-default.is) (omega arith))
+      | in_default w ↦ absurd (nth_within ts c.loop-i.i (sym c.get.ensures ∙ w.in_default.is) (omega arith))
     ]
 
 pub returns : goal.returns

@@ -8,15 +8,15 @@ use Rattle.atoms.specs.Meaning.{pattern_meant}
 use Rattle.rules.proofs.Scanning.{guard_more, guard_here, guard_start}
 use Rattle.rules.proofs.rule.covering.first_covering.Goals as goal
 
-pub returns-then-covers-body : goal.returns-then-covers-body
-returns-then-covers-body c =
+pub returns-then-covers_body : goal.returns-then-covers_body
+returns-then-covers_body c =
     let ps = c.args.body.now in
-    sym (guard_here ps c.loop-i.i c.index-body-i.result (slice_get_read ps _ c.loop-i.i _ refl c.loop-i-test.true c.index-body-i.is) (map pattern_meant ps) (sym c.if-covers-body.ensures)) ∙ c.loop-i.invariant
+    sym (guard_here ps c.loop-i.i c.index-body-i.result (slice_get_read ps _ c.loop-i.i _ refl c.loop-i-test.true c.index-body-i.is) (map pattern_meant ps) (sym c.if-covers_body.ensures)) ∙ c.loop-i.invariant
 
 pub loop-i-preserved : goal.loop-i-preserved
 loop-i-preserved c =
     let ps = c.args.body.now in
-    guard_more ps c.loop-i.i c.index-body-i.result (slice_get_read ps _ c.loop-i.i _ refl c.loop-i-test.true c.index-body-i.is) (map pattern_meant ps) (sym c.if-covers-body.ensures) ∙ c.loop-i.invariant
+    guard_more ps c.loop-i.i c.index-body-i.result (slice_get_read ps _ c.loop-i.i _ refl c.loop-i-test.true c.index-body-i.is) (map pattern_meant ps) (sym c.if-covers_body.ensures) ∙ c.loop-i.invariant
 
 pub returns : goal.returns
 returns c =
