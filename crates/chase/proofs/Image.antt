@@ -9,10 +9,10 @@ use Rattle.std.specs.Map.{update}
 use Rattle.std.proofs.slice.Lists.{all_by_recursion_push}
 use Rattle.std.proofs.lemmas.Bool.{eqb-true, eqb-false, eq-eqb, ne_eqb, both_ways, or_cases, or_left, and_parts, and_from, cases_Bool}
 use Rattle.semantics.specs.Subject.{Slot, con, var, Pattern, Atom, Binding, Rule, Candidate, Gives, GivesAll, Fits, Holds, Match, HasMatch, Follows, Model, Extends, Exactly, is_var, in_slots, in_patterns}
-use Rattle.chase.specs.Chase.{Plain, PlainAll, PlainRule, IsFact}
+use Rattle.chase.specs.Chase.{numbered, Plain, PlainAll, PlainRule, IsFact}
 use Rattle.semantics.specs.Computed.{and_then, fit, terms_of, atom_of, nothing}
 use Rattle.chase.specs.Chase.{stands, missing, guard_of, fresh, fresh_slot, fresh_var, State, Move, broken, already, overfull, adds, put_head, is_full, with_head, after_side, after_fit, after_place, after_guard, after_rule, step, moved, run, start}
-use Rattle.semantics.specs.Subject.{On, numbered}
+use Rattle.semantics.specs.Subject.{On}
 use Rattle.chase.specs.Theorems.{sent, Image}
 use Rattle.semantics.proofs.Fitting.{some_is, none_some, then_some, same_bool, Grown, fit_sound, gives_terms, terms_given, put, put_here, put_keeps, put_exact, put_cases, held_exact}
 use Rattle.chase.proofs.Piles.{every_nth, every_map, every_both, missing_none, guard_exact}
@@ -139,11 +139,8 @@ pub on_match : (pile : List Atom) (b : Binding) (ps : List Pattern) → Exactly 
 on_match pile b ps x e = (x, on_holds pile b ps (λ i h. x i ∙ h) (missing_none pile b ps e))
 
 pub numbered_every : {A : Type 0} (P : A → Type 0) (xs : List A) (k : ℕ) (x : A) → AllByRecursion P xs → numbered xs k ≡ Some x → P x
-numbered_every P xs k x h = by_zero (eqb k 0)
-  where
-    by_zero : (z : Bool) → cond z None (slice_get xs (k - 1)) ≡ Some x → P x
-    by_zero true e = absurd (none_some e)
-    by_zero false e = every_nth P xs (k - 1) x h e
+numbered_every P xs zero x h e = absurd (none_some e)
+numbered_every P xs (suc k) x h e = every_nth P xs k x h e
 
 module _ (m : Candidate) where
   -- a match in the pile is sent to one in m

@@ -4,8 +4,8 @@ use mathlib.Core.Path.{fun_ext}
 use Rattle.std.specs.List.{slice_get, AllByRecursion}
 use Rattle.std.proofs.lemmas.Bool.{both_ways, eq-eqb}
 use Rattle.semantics.specs.Subject.{Pattern, Atom, Binding, Rule, Fits, Holds, Match, Extends, Exactly, Guards}
-use Rattle.semantics.specs.Subject.{On, numbered}
-use Rattle.chase.specs.Chase.{State, Move, guard_of, fresh, with_head, step, missing, after_side, after_fit, after_place, after_guard, after_rule, Claim, accepted, refused, claim, claim_from, claim_place, claim_fit, goes_on}
+use Rattle.semantics.specs.Subject.{On}
+use Rattle.chase.specs.Chase.{numbered, State, Move, guard_of, fresh, with_head, step, missing, after_side, after_fit, after_place, after_guard, after_rule, Claim, accepted, refused, claim, claim_from, claim_place, claim_fit, goes_on}
 use Rattle.semantics.specs.Computed.{nothing, fit, atom_of, guard, and_then}
 use Rattle.chase.specs.Firing.{Fires}
 use Rattle.chase.specs.Law.{Used, is_broken, StepExact, ClaimExact}

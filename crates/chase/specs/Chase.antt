@@ -4,7 +4,7 @@ use Rattle.std.specs.Option.{option_map, unwrap_or}
 use Rattle.std.specs.List.{slice_get, AllByRecursion}
 use Rattle.std.specs.Str.{bytes_eq as same_text}
 use Rattle.std.specs.Map.{update}
-use Rattle.semantics.specs.Subject.{On, numbered, Slot, con, var, Pattern, Atom, Binding, Rule, Candidate, Obeys}
+use Rattle.semantics.specs.Subject.{On, Slot, con, var, Pattern, Atom, Binding, Rule, Candidate, Obeys}
 use Rattle.semantics.specs.Computed.{guard, and_then, nothing, fit, atom_of, first_match}
 
 -- constants are below 1,000,000
@@ -93,6 +93,10 @@ guard_of r = and_then (guard r.body) (slice_get r.body)
 abbrev pub after_rule : State → ℕ → ℕ → Option Rule → Move
 after_rule s k place None = broken 11 k 0
 after_rule s k place (Some r) = after_guard s r place (guard_of r)
+
+abbrev pub numbered : {A : Type 0} → List A → ℕ → Option A
+numbered xs zero = None
+numbered xs (suc k) = slice_get xs k
 
 abbrev pub step : List Rule → State → ℕ → ℕ → Move
 step rules s k place = after_rule s k place (numbered rules k)
