@@ -1,5 +1,5 @@
 -- Fitting one slot of a pattern, in the code's terms.
-use Rattle.std.proofs.Common.{◌≡◌, ℕ, zero, suc, ◌<◌, Bool, true, false, cond, eqb, ◌⊎◌, List, length, get_or, set, Some, None, Option, sym, refl, ap, ◌∙◌, inl, inr, arith}
+use Rattle.std.proofs.Common.{◌≡◌, ℕ, zero, suc, ◌<◌, cond, eqb, List, length, get_or, set, Some, None, Option, sym, ap, ◌∙◌, inl, inr, arith}
 use mathlib.Core.Path.{fun_ext}
 use Rattle.std.specs.Map.{update}
 use Rattle.std.specs.Option.{option_map}
@@ -23,11 +23,11 @@ pub bound_more : (b : List (Option Term)) (i : ℕ) (t : Term) → i < length b 
 bound_more b i t h = fun_ext at
   where
     at : (k : ℕ) → bound (set b i (Some t)) k ≡ update eqb (bound b) (suc i) (Some (term_meant t)) k
-    at zero = sym (ap (λ w. cond w (Some (term_meant t)) None) (ne_eqb zero (suc i) (λ e. omega arith)))
+    at zero = sym (ap (λ w. cond w (Some (term_meant t)) None) (ne_eqb (suc i) zero (λ e. omega arith)))
     at (suc k) =
         elim (cases_eq i k) [
-          | inl e ↦ ap (λ j. option_map term_meant (get_or (set b i (Some t)) j None)) (sym e) ∙ ap (option_map term_meant) (get_or-set_same b i (Some t) None h) ∙ sym (ap (λ w. cond w (Some (term_meant t)) (option_map term_meant (get_or b k None))) (eq-eqb (suc k) (suc i) (ap suc (sym e))))
-          | inr n ↦ ap (option_map term_meant) (get_or-set_other b i k (Some t) None (λ e. n (sym e))) ∙ sym (ap (λ w. cond w (Some (term_meant t)) (option_map term_meant (get_or b k None))) (ne_eqb (suc k) (suc i) (λ e. n (omega arith))))
+          | inl e ↦ ap (λ j. option_map term_meant (get_or (set b i (Some t)) j None)) (sym e) ∙ ap (option_map term_meant) (get_or-set_same b i (Some t) None h) ∙ sym (ap (λ w. cond w (Some (term_meant t)) (option_map term_meant (get_or b k None))) (eq-eqb (suc i) (suc k) (ap suc e)))
+          | inr n ↦ ap (option_map term_meant) (get_or-set_other b i k (Some t) None (λ e. n (sym e))) ∙ sym (ap (λ w. cond w (Some (term_meant t)) (option_map term_meant (get_or b k None))) (ne_eqb (suc i) (suc k) (λ e. n (omega arith))))
         ]
 
 -- variable i of the binding, which the code reads at k with a default of its own

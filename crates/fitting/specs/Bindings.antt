@@ -1,5 +1,5 @@
 -- What a binding of the code means to the subject.
-use Rattle.std.specs.Prelude.{ℕ, zero, suc, List, None, Ok, Err, Option, Result, slice_index_or}
+use Rattle.std.specs.Prelude.{zero, suc, List, None, Ok, Err, Option, Result, slice_index_or}
 use Rattle.std.specs.Option.{option_map}
 use Rattle.semantics.specs.Subject.{Binding}
 use Rattle.terms.specs.Meaning.{term_meant}

@@ -1,9 +1,8 @@
 -- One turn of the gathering.
-use Rattle.std.proofs.Common.{◌≡◌, ℕ, ◌+◌, ◌<◌, ◌≤◌, Bool, true, false, cond, List, [], ◌∷◌, ◌++◌, map, length, get_or, drop, Some, None, Option, sym, refl, ap, ◌∙◌}
+use Rattle.std.proofs.Common.{◌≡◌, ℕ, ◌+◌, ◌<◌, ◌≤◌, Bool, true, false, cond, List, [], ◌∷◌, ◌++◌, length, get_or, drop, Some, None, Option, sym, ap, ◌∙◌}
 use Rattle.std.proofs.lemmas.List.{at_drop_more, at_drop_all}
-use Rattle.std.proofs.lemmas.Bool.{cond-true, cond-false}
 use Rattle.words.specs.declared.word.Mark.{Mark}
-use Rattle.words.specs.declared.word.Mark.TheVariants.{Space, Comma, Semicolon, End}
+use Rattle.words.specs.declared.word.Mark.TheVariants.{End}
 use Rattle.words.specs.declared.word.Token.{Token}
 use Rattle.lines.specs.Atoms.{Said, takes}
 use Rattle.lines.specs.Sentences.{Spoken, by_option, by_mark, whole, gathers}

@@ -1,12 +1,12 @@
 -- An atom with one term more, and as a caller's.
-use Rattle.std.proofs.Common.{◌≡◌, ℕ, ◌+◌, ◌<◌, ◌≤◌, true, cond, ltb, List, [], ◌∷◌, ◌++◌, length, take, set, Some, None, Option, sym, refl, ap, ◌∙◌, arith}
+use Rattle.std.proofs.Common.{◌≡◌, ℕ, ◌+◌, ◌<◌, ◌≤◌, ltb, List, length, take, set, Some, sym, ap, ◌∙◌, arith}
 use Rattle.std.proofs.lemmas.List.{take_more_set, length-take-le, length-take, take_all}
 use Rattle.std.proofs.lemmas.Bool.{cond-true, lt-ltb}
 use Rattle.reading.specs.declared.raw.RawTerm.{RawTerm}
 use Rattle.rows.specs.Rows.{listed_or_none}
 use Rattle.reading.specs.declared.raw.RawAtom.{RawAtom}
 use Rattle.lines.specs.declared.atom.WrittenAtom.{WrittenAtom}
-use Rattle.lines.specs.Atoms.{Said, told, said, extends}
+use Rattle.lines.specs.Atoms.{told, said, extends}
 
 pub grows : (p : ℕ) (xs : List RawTerm) (n : ℕ) (t : RawTerm) → n < 4 → length xs ≡ 4 → Some (record { predicate = p; terms = take (n + 1) (set xs n t) }) ≡ extends (record { predicate = p; terms = take n xs }) t
 grows p xs n t h l =

@@ -1,5 +1,5 @@
 -- Gathering is the inverse of writing.
-use Rattle.std.proofs.Common.{◌≡◌, ℕ, suc, ◌+◌, ◌^◌, ◌<◌, ◌≤◌, Bool, true, false, cond, ltb, List, [], ◌∷◌, ◌++◌, length, Some, None, decimal, Option, sym, refl, ap, ◌∙◌, subst, append_assoc, append-nil, arith}
+use Rattle.std.proofs.Common.{◌≡◌, ℕ, suc, ◌+◌, ◌<◌, ◌≤◌, Bool, true, false, ltb, List, [], ◌∷◌, ◌++◌, length, Some, None, Option, sym, refl, ap, ◌∙◌, subst, append_assoc, append-nil, arith}
 use Rattle.std.specs.List.{flat_map, AllByRecursion as All}
 use Rattle.std.proofs.ByRecursion.{All-append, All-push, All-weaker}
 use Rattle.std.proofs.lemmas.List.{length_push, flat_map_more, append_cancel_right}
@@ -12,8 +12,8 @@ use Rattle.words.specs.declared.word.Token.{Token}
 use Rattle.words.specs.Words.{term_text, mark_byte, tokens_text, Small, tokens_of}
 use Rattle.words.proofs.Inverse.{Inverse}
 use Rattle.words.proofs.Scans.{tokens_append, no_none, tokens_written, tokens_read}
-use Rattle.lines.specs.Atoms.{Said, atom_text, SmallTerm, GoodAtom, begins, grown, extends, opens, takes}
-use Rattle.lines.specs.Sentences.{Spoken, list_text, head_text, spoken_text, GoodHead, GoodSpoken, by_option, by_mark, whole, gathers, gathered, bound, spoken_of}
+use Rattle.lines.specs.Atoms.{Said, atom_text, SmallTerm, GoodAtom, begins, grown, opens, takes}
+use Rattle.lines.specs.Sentences.{Spoken, list_text, spoken_text, GoodHead, GoodSpoken, by_option, whole, gathers, gathered, bound, spoken_of}
 use Rattle.lines.proofs.Gathers.{on_mark}
 
 -- the words of each part, with the mark after the last

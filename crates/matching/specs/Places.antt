@@ -1,5 +1,5 @@
 -- What fitting patterns at named places answers.
-use Rattle.std.specs.Prelude.{◌≡◌, ℕ, suc, List, length, take, Some, None, Ok, Err, Option, Result, ◌≢◌}
+use Rattle.std.specs.Prelude.{◌≡◌, ℕ, suc, List, length, take, Some, None, Ok, Err, Result, ◌≢◌}
 use Rattle.std.specs.List.{slice_get}
 use Rattle.semantics.specs.Computed.{fit}
 use Rattle.semantics.specs.Subject.{Pattern, Atom, Binding, AtPlaces, Exactly}

@@ -1,5 +1,5 @@
 -- Scanning is the inverse of writing.
-use Rattle.std.proofs.Common.{◌≡◌, ℕ, suc, ◌+◌, ◌-◌, ◌*◌, ◌/◌, ◌%◌, ◌^◌, ◌<◌, ◌≤◌, Bool, true, false, cond, ◌&&◌, eqb, ltb, leb, ◌⊎◌, List, [], ◌∷◌, ◌++◌, length, get_or, drop, Some, None, decimal, Option, sym, refl, ap, ◌∙◌, subst, inl, inr, ⊎_elim, append_assoc, append-nil, arith}
+use Rattle.std.proofs.Common.{◌≡◌, ℕ, ◌+◌, ◌-◌, ◌*◌, ◌/◌, ◌%◌, ◌^◌, ◌<◌, ◌≤◌, true, ◌&&◌, eqb, ltb, leb, List, [], ◌∷◌, ◌++◌, length, get_or, drop, Some, None, decimal, Option, sym, refl, ap, ◌∙◌, subst, append_assoc, append-nil, arith}
 use Rattle.std.specs.List.{AllByRecursion as All}
 use Rattle.std.proofs.ByRecursion.{All-push}
 use Rattle.std.proofs.lemmas.List.{at_drop_more, at_drop_all}
@@ -18,7 +18,7 @@ use Rattle.words.specs.declared.word.State.TheVariants.{BetweenWords, AfterV, Af
 use Rattle.words.specs.declared.word.Step.{Step}
 use Rattle.words.specs.declared.word.Step.TheVariants.{Go, Ends, Refused}
 use Rattle.words.specs.Reads.{Reads}
-use Rattle.words.specs.Words.{term_text, number_of, term_of, mark_byte, tokens_text, Small, digit, token, step_of, by_step, at_end, scan, tokens_of}
+use Rattle.words.specs.Words.{term_text, number_of, term_of, mark_byte, tokens_text, Small, digit, token, step_of, by_step, scan, tokens_of}
 
 -- what is written is read
 

@@ -46,7 +46,7 @@ impl<'a> FlatShelf<'a> {
         ensures list { rows self.new ≡ rows self.old ++ atom ∷ [] }
         ensures free { room self.new + 1 ≡ room self.old }
         ensures lender { self.new.records.ghost_name ≡ self.old.records.ghost_name }
-        ensures memory { held self.new.records ≡ set (held self.old.records) result (record { atom = atom }) }
+        ensures memory { self.new.records.now ≡ set self.old.records.now result (record { atom = atom }) }
     {
         let place = self.held();
         self.records[place] = Record { atom };

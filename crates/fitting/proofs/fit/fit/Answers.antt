@@ -1,4 +1,4 @@
-use Rattle.std.proofs.Common.{◌≡◌, Bool, true, false, cond, None, Option, sym, refl, ap, ◌∙◌, subst}
+use Rattle.std.proofs.Common.{◌≡◌, cond, None, Option, sym, refl, ap, ◌∙◌, subst}
 use Rattle.std.proofs.lemmas.Bool.{eq-eqb, ne_eqb, false≢true}
 use Rattle.semantics.specs.Subject.{Binding, Pattern, Atom, Fitted}
 use Rattle.semantics.specs.Computed.{fit, fit_slots}
@@ -24,7 +24,7 @@ returns-then-eq c =
     let b = bound c.args.binding in
     let p = pattern_meant c.args.pattern.now in
     let a = atom_meant c.args.atom.now in
-    let v = same_pred b p a _ (ap (λ (x : Predicate). x.number) (c.if-eq.ensures.0 refl)) c.fit-row.ensures in
+    let v = same_pred b p a _ (ap (λ (x : Predicate). x.number) (c.if-eq.ensures.same.0 refl)) c.fit_row.ensures in
     record { value = v; fitted = fitted b p a _ v }
 
 pub returns-else-eq : goal.returns-else-eq
@@ -32,5 +32,5 @@ returns-else-eq c =
     let b = bound c.args.binding in
     let p = pattern_meant c.args.pattern.now in
     let a = atom_meant c.args.atom.now in
-    let v = other_pred b p a (λ e. false≢true (c.if-eq.ensures.1 (same_predicate c.args.pattern.now.predicate c.args.atom.now.predicate e))) in
+    let v = other_pred b p a (λ e. false≢true (c.if-eq.ensures.same.1 (same_predicate c.args.pattern.now.predicate c.args.atom.now.predicate e))) in
     record { value = v; fitted = fitted b p a None v }

@@ -1,4 +1,4 @@
-use Rattle.std.proofs.Common.{◌≡◌, ℕ, ◌<◌, length, Option, sym, ap, ◌∙◌, arith, rules}
+use Rattle.std.proofs.Common.{◌≡◌, ℕ, ◌<◌, length, Option, sym, ap, ◌∙◌, rules}
 use Rattle.std.proofs.lemmas.Bool.{false≢true}
 use Rattle.semantics.specs.Subject.{Binding}
 use Rattle.semantics.specs.Computed.{fit_slot}
@@ -12,7 +12,7 @@ at_slot : (o : Option Binding) (b : Binding) (t : ℕ) (p q : PatternTerm) → p
 at_slot o b t p q e h = h ∙ ap (λ s. fit_slot b (slot_meant s) t) (sym e)
 
 pub returns-else-eq : goal.returns-else-eq
-returns-else-eq c = at_slot _ _ _ _ _ c.in-Constant.is (constant_differs _ c.in-Constant.constant c.args.term (λ e. false≢true (c.if-eq.ensures.1 e)))
+returns-else-eq c = at_slot _ _ _ _ _ c.in-Constant.is (constant_differs _ c.in-Constant.constant c.args.term (λ e. false≢true (c.if-eq.ensures.same.1 e)))
 
 pub returns-in-None : goal.returns-in-None
 returns-in-None c =
@@ -22,4 +22,4 @@ returns-in-None c =
 pub returns-else-eq-2 : goal.returns-else-eq-2
 returns-else-eq-2 c =
     let inside : c.in-Variable.variable.index < length c.args.binding = search rules in
-    at_slot _ _ _ _ _ c.in-Variable.is (variable_differs c.args.binding _ c.in-Variable.variable.index c.index-index.ensures.value inside _ c.args.term c.in-Some.old c.in-Some.is (λ e. false≢true (c.if-eq-2.ensures.1 e)))
+    at_slot _ _ _ _ _ c.in-Variable.is (variable_differs c.args.binding _ c.in-Variable.variable.index c.index-index.ensures.value inside _ c.args.term c.in-Some.old c.in-Some.is (λ e. false≢true (c.if-eq-2.ensures.same.1 e)))

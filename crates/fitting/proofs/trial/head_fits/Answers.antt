@@ -1,6 +1,5 @@
-use Rattle.std.proofs.Common.{◌≡◌, Bool, true, false, not, sym, refl, ap, ◌∙◌}
-use Rattle.std.proofs.lemmas.Bool.{false≢true}
-use Rattle.terms.specs.Same.{same_predicate}
+use Rattle.std.proofs.Common.{not, sym, ap, ◌∙◌}
+use Rattle.std.proofs.lemmas.Bool.{false≢true, eq-eqb}
 use Rattle.fitting.proofs.trial.head_fits.Goals as goal
 
 pub returns-then-ne : goal.returns-then-ne
@@ -10,6 +9,6 @@ returns-then-ne c =
       same = c.drop-trial.ensures;
       answer = (
         λ e. absurd (false≢true e),
-        λ f. absurd (false≢true (sym (other.2 ∙ ap not (other.1.1 (same_predicate c.args.head.now.predicate c.args.atom.now.predicate f.2.0))))),
+        λ f. absurd (false≢true (sym (other ∙ ap not (eq-eqb _ _ (sym f.2.0))))),
       );
     }

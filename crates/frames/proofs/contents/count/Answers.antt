@@ -6,9 +6,9 @@ use Rattle.frames.proofs.contents.count.Goals as goal
 
 pub returns-in-Some : goal.returns-in-Some
 returns-in-Some c =
-    c.at-most.ensures
-    ∙ ap (bound (within c.args.most)) (sym c.in-Some.is ∙ c.in-ok-number.ensures.same) ∙ count_rest c.args.letter c.args.most c.args.line.now (search rules) (search rules) (search rules)
+    c.at_most.ensures
+    ∙ ap (bound (within c.args.most)) (sym c.in-Some.is ∙ c.in_ok-number-in-32.ensures.same) ∙ count_rest c.args.letter c.args.most c.args.line.now (search rules) (search rules) (search rules)
 
 pub returns-in-None : goal.returns-in-None
 returns-in-None c =
-    ap (bound (within c.args.most)) (sym c.in-None.is ∙ c.in-ok-number.ensures.same) ∙ count_rest c.args.letter c.args.most c.args.line.now (search rules) (search rules) (search rules)
+    ap (bound (within c.args.most)) (sym c.in-None.is ∙ c.in_ok-number-in-32.ensures.same) ∙ count_rest c.args.letter c.args.most c.args.line.now (search rules) (search rules) (search rules)

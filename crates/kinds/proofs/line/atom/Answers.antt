@@ -9,10 +9,10 @@ use Rattle.kinds.proofs.line.atom.Goals as goal
 
 pub returns-in-Some : goal.returns-in-Some
 returns-in-Some c =
-    let e = c.sole.ensures ∙ ap (bound sole_of) (sym (ap (option_map sentence) c.in-Some.is) ∙ c.in-ok-s.ensures.same) in
+    let e = c.sole.ensures ∙ ap (bound sole_of) (sym (ap (option_map sentence) c.in-Some.is) ∙ c.in_ok-s.ensures.same) in
     record { same = e; reads = reads GoodAtom atom_text fact_of fact_inverse c.args.line.now _ e }
 
 pub returns-in-None : goal.returns-in-None
 returns-in-None c =
-    let e : None ≡ fact_of c.args.line.now = ap (bound sole_of) (sym (ap (option_map sentence) c.in-None.is) ∙ c.in-ok-s.ensures.same) in
+    let e : None ≡ fact_of c.args.line.now = ap (bound sole_of) (sym (ap (option_map sentence) c.in-None.is) ∙ c.in_ok-s.ensures.same) in
     record { same = e; reads = reads GoodAtom atom_text fact_of fact_inverse c.args.line.now _ e }

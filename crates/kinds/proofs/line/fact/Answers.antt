@@ -10,4 +10,4 @@ use Rattle.kinds.proofs.line.fact.Goals as goal
 pub returns-in-None : goal.returns-in-None
 returns-in-None c =
     door GoodAtom atom_text fact_of fact_inverse told Whole c.args.line.now None
-    (sym (ap (option_map said) c.in-None.is) ∙ c.in-ok-written.ensures.same) tt
+    (sym (ap (option_map said) c.in-None.is) ∙ c.in_ok-written.ensures.same) tt

@@ -11,19 +11,19 @@ use Rattle.kinds.proofs.line.request.Goals as goal
 pub returns-in-len1 : goal.returns-in-len1
 returns-in-len1 c =
     door GoodAsked asked_text asked_of call_inverse asked WholeRequest c.args.line.now _
-    (c.bare-request.ensures.same ∙ ap bare_of c.from.ensures ∙ letter_alone c.args.line.now (search rules)) c.bare-request.ensures.whole
+    (c.bare_request.ensures.same ∙ ap bare_of c.from.ensures ∙ letter_alone c.args.line.now (search rules)) c.bare_request.ensures.whole
 
 pub returns-in-Some : goal.returns-in-Some
 returns-in-Some c =
-    made_two c.request-with.result _ _ _
+    made_two c.request_with.result _ _ _
     (λ o e f. door GoodAsked asked_text asked_of call_inverse asked WholeRequest c.args.line.now o
     (e ∙ ap (λ l. asked_with l (said c.in-Some.written)) c.from-in-Some.ensures
-    ∙ ap (bound (asked_with (get_or c.args.line.now 0 0))) (sym (ap (option_map said) c.in-Some.is) ∙ c.in-ok-written.ensures.same)
+    ∙ ap (bound (asked_with (get_or c.args.line.now 0 0))) (sym (ap (option_map said) c.in-Some.is) ∙ c.in_ok-written-in-32.ensures.same)
     ∙ letter_rest c.args.line.now (search rules) (search rules)) f)
-    c.request-with.ensures.same c.request-with.ensures.whole
+    c.request_with.ensures.same c.request_with.ensures.whole
 
 pub returns-in-None : goal.returns-in-None
 returns-in-None c =
     door GoodAsked asked_text asked_of call_inverse asked WholeRequest c.args.line.now None
-    (ap (bound (asked_with (get_or c.args.line.now 0 0))) (sym (ap (option_map said) c.in-None.is) ∙ c.in-ok-written.ensures.same)
+    (ap (bound (asked_with (get_or c.args.line.now 0 0))) (sym (ap (option_map said) c.in-None.is) ∙ c.in_ok-written-in-32.ensures.same)
     ∙ letter_rest c.args.line.now (search rules) (search rules)) tt

@@ -3,6 +3,6 @@ use Rattle.kinds.proofs.parts.plain.Goals as goal
 
 pub returns : goal.returns
 returns c = record {
-  same = plain_plain c.args.s _ c.in-None.is c.body-of.ensures.same;
-  whole = c.body-of.ensures.whole;
+  same = plain_plain c.args.s _ c.in-None.is c.body_of.ensures.same;
+  whole = c.body_of.ensures.whole;
 }

@@ -1,17 +1,17 @@
-use Rattle.std.proofs.Common.{◌≡◌, ◌+◌, true, false, cond, List, [], ◌∷◌, ◌++◌, map, drop, Some, None, vec_items, sym, refl, ap, ◌∙◌, subst}
+use Rattle.std.proofs.Common.{map, Some, vec_items, sym, ap, ◌∙◌}
 use Rattle.std.specs.Option.{option_map}
 use Rattle.std.proofs.lemmas.List.{at_drop_all, map_push}
 use Rattle.std.proofs.lemmas.Bool.{cond-true, cond-false}
-use Rattle.words.specs.declared.word.Mark.TheVariants.{Space, Comma, Semicolon, End}
+use Rattle.words.specs.declared.word.Mark.TheVariants.{Space, Comma, Semicolon}
 use Rattle.lines.specs.Atoms.{said}
-use Rattle.lines.specs.Sentences.{gathers, gathered}
+use Rattle.lines.specs.Sentences.{gathers}
 use Rattle.lines.proofs.Gathers.{turn_none, turn_some, ends_early, ends}
 use Rattle.lines.proofs.sentence.gather.Goals as goal
-use Rattle.lines.proofs.sentence.gather.Goals.{in-Space, in-Comma+else-past+in-ok-push, in-Semicolon+else-past-2+in-ok-push-2}
+use Rattle.lines.proofs.sentence.gather.Goals.{in-Space, in-Comma+else-past+in_ok-push-in-Comma, in-Semicolon+else-past-2+in_ok-push-in-Semicolon}
 
-pub returns-in-default : goal.returns-in-default
-returns-in-default c =
-    sym (turn_none c.args.tokens.now c.loop-i.i _ (map said (vec_items c.loop-i.body)) c.loop-i.past (option_map said c.loop-i.begun) c.loop-i-test.true c.in-default.ensures) ∙ c.loop-i.invariant
+pub returns-in_default : goal.returns-in_default
+returns-in_default c =
+    sym (turn_none c.args.tokens.now c.loop-i.i _ (map said (vec_items c.loop-i.body)) c.loop-i.past (option_map said c.loop-i.begun) c.loop-i-test.true c.in_default.ensures) ∙ c.loop-i.invariant
 
 pub returns-then-past : goal.returns-then-past
 returns-then-past c =
@@ -29,7 +29,7 @@ returns-then-i-tokens c =
 
 pub returns-in-End : goal.returns-in-End
 returns-in-End c =
-    ap Some c.in-ok-ended.ensures
+    ap Some c.in_ok-ended-in-End.ensures
     ∙ sym (ends c.args.tokens.now c.loop-i.i _ (map said (vec_items c.loop-i.body)) c.loop-i.past (option_map said c.loop-i.begun) (said c.in-Some.atom) c.loop-i-test.true c.in-Some.ensures c.in-End.is c.if-i-tokens.false) ∙ c.loop-i.invariant
 
 pub loop-i-preserved : goal.loop-i-preserved
@@ -43,10 +43,10 @@ loop-i-preserved c =
     elim c.match-token.branch [
       | in-Space w ↦ (let t = turn_some ts i _ body past begun a Space c.loop-i-test.true c.in-Some.ensures w.in-Space.is in
           let p = ap (λ v. map said (vec_items v)) w.body-is in let q = w.past-is in let r = ap (option_map said) w.begun-is in cc)
-      | in-Comma+else-past+in-ok-push w ↦ (let t = turn_some ts i _ body past begun a Comma c.loop-i-test.true c.in-Some.ensures w.in-Comma.is ∙ cond-false past _ _ w.if-past.false in
-          let p = ap (λ v. map said (vec_items v)) w.body-is ∙ ap (map said) w.in-ok-push.ensures.items ∙ map_push said (vec_items c.loop-i.body) c.in-Some.atom in let q = w.past-is ∙ w.if-past.false in let r = ap (option_map said) w.begun-is in cc)
-      | in-Semicolon+else-past-2+in-ok-push-2 w ↦ (let t = turn_some ts i _ body past begun a Semicolon c.loop-i-test.true c.in-Some.ensures w.in-Semicolon.is ∙ cond-false past _ _ w.if-past-2.false in
-          let p = ap (λ v. map said (vec_items v)) w.body-is ∙ ap (map said) w.in-ok-push-2.ensures.items ∙ map_push said (vec_items c.loop-i.body) c.in-Some.atom in let q = w.past-is in let r = ap (option_map said) w.begun-is in cc)
+      | in-Comma+else-past+in_ok-push-in-Comma w ↦ (let t = turn_some ts i _ body past begun a Comma c.loop-i-test.true c.in-Some.ensures w.in-Comma.is ∙ cond-false past _ _ w.if-past.false in
+          let p = ap (λ v. map said (vec_items v)) w.body-is ∙ ap (map said) w.in_ok-push-in-Comma.ensures.items ∙ map_push said (vec_items c.loop-i.body) c.in-Some.atom in let q = w.past-is ∙ w.if-past.false in let r = ap (option_map said) w.begun-is in cc)
+      | in-Semicolon+else-past-2+in_ok-push-in-Semicolon w ↦ (let t = turn_some ts i _ body past begun a Semicolon c.loop-i-test.true c.in-Some.ensures w.in-Semicolon.is ∙ cond-false past _ _ w.if-past-2.false in
+          let p = ap (λ v. map said (vec_items v)) w.body-is ∙ ap (map said) w.in_ok-push-in-Semicolon.ensures.items ∙ map_push said (vec_items c.loop-i.body) c.in-Some.atom in let q = w.past-is in let r = ap (option_map said) w.begun-is in cc)
     ]
 
 pub returns : goal.returns

@@ -6,8 +6,8 @@ use Rattle.matching.specs.Searches.{pile, patterns_meant}
 use Rattle.matching.proofs.Rounds.{tried}
 use Rattle.matching.proofs.find.+find_from.Given as goal
 
-abbrev pub decreases-find-from : goal.decreases-find-from
-decreases-find-from g l = length l.patterns.now
+abbrev pub decreases-find_from : goal.decreases-find_from
+decreases-find_from g l = length l.patterns.now
 
 -- what the atoms that are left give is what all of them give
 abbrev pub invariant-loop-place : goal.invariant-loop-place

@@ -12,5 +12,5 @@ pub returns : goal.returns
 returns g c =
     let xs = pile (g.S.Stock.list c.args.stock.now) in
     let ps = patterns_meant c.args.patterns.now in
-    let e : option_map bound c.find-from.result ≡ first_match xs nothing ps = c.find-from.ensures ∙ ap (λ b. first_match xs b ps) (fun_ext c.unbound.ensures) in
+    let e : option_map bound c.find_from.result ≡ first_match xs nothing ps = c.find_from.ensures ∙ ap (λ b. first_match xs b ps) (fun_ext c.unbound.ensures) in
     record { value = e; matched = subst (Searched (On xs) ps) (sym e) (search_searched xs ps) }

@@ -23,14 +23,14 @@ exits xs b i p k e r out not =
     let q = err_from_is_err_and r out in
     subst (λ x. FittedAt xs b i p k (bound_or x)) (sym (q.1 ∙ ap Err q.2)) not
 
-pub returns-in-err-atom : goal.returns-in-err-atom
-returns-in-err-atom g c =
-    let none = c.in-err-atom.ensures in
-    exits (pile (g.S.Stock.list c.args.stock.now)) (bound c.args.binding) c.args.index (pattern_meant c.args.pattern.now) c.args.place _ c.from-residual.result c.from-residual.ensures.1
+pub returns-in_err-atom : goal.returns-in_err-atom
+returns-in_err-atom g c =
+    let none = c.in_err-atom.ensures in
+    exits (pile (g.S.Stock.list c.args.stock.now)) (bound c.args.binding) c.args.index (pattern_meant c.args.pattern.now) c.args.place _ c.from_residual.result c.from_residual.ensures.1
     (place_past none.1 (there (g.S.Stock.list c.args.stock.now) c.args.place _ none.0))
 
 pub returns-in-Some : goal.returns-in-Some
-returns-in-Some g c = (atom_meant c.in-ok-atom.atom, there (g.S.Stock.list c.args.stock.now) c.args.place _ c.in-ok-atom.ensures, sym c.in-Some.ensures.value)
+returns-in-Some g c = (atom_meant c.in_ok-atom.atom, there (g.S.Stock.list c.args.stock.now) c.args.place _ c.in_ok-atom.ensures, sym c.in-Some.ensures.value)
 
 pub returns-in-None : goal.returns-in-None
-returns-in-None g c = place_unfit (atom_meant c.in-ok-atom.atom) (refl, refl, refl) (there (g.S.Stock.list c.args.stock.now) c.args.place _ c.in-ok-atom.ensures) (sym c.in-None.ensures.value)
+returns-in-None g c = place_unfit (atom_meant c.in_ok-atom.atom) (refl, refl, refl) (there (g.S.Stock.list c.args.stock.now) c.args.place _ c.in_ok-atom.ensures) (sym c.in-None.ensures.value)

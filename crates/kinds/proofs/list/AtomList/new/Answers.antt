@@ -37,5 +37,5 @@ returns-in-len4 c = record {
   whole = (c.raw-in-len4.ensures.few, (c.raw-in-len4-2.ensures.few, (c.raw-in-len4-3.ensures.few, (c.raw-in-len4-4.ensures.few, tt))));
 }
 
-pub returns-in-default : goal.returns-in-default
-returns-in-default c = record { same = too_many c.args.atoms.now (search rules); whole = tt }
+pub returns-in_default : goal.returns-in_default
+returns-in_default c = record { same = too_many c.args.atoms.now (search rules); whole = tt }

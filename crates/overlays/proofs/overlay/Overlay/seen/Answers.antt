@@ -8,5 +8,5 @@ returns g c =
     let xs = g.S.Stock.list o.below in
     let short = g.S.Stock.short o.below in
     let fits : o.own.count ≤ length o.own.rows = omega (arith, o.own.few, o.own.long) in
-    let value : c.min.result ≡ min o.own.count (1000000 - length xs) = omega (arith, c.min.ensures, c.own-len.ensures.value, c.len.ensures) in
+    let value : c.min.result ≡ min o.own.count (1000000 - length xs) = omega (arith, c.min.ensures, c.own_len.ensures.value, c.len.ensures) in
     record { value = value; size = omega (arith, value, top_length 1000000 xs o.own.count o.own.rows short fits) }
