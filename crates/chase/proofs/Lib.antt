@@ -1,4 +1,5 @@
 pub mod Claims
+pub mod EdgesHold
 pub mod Image
 pub mod Laws
 pub mod Numbers

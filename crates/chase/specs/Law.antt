@@ -1,7 +1,7 @@
 -- Step and claim, as computed, follow the relations.
 use Rattle.std.specs.Prelude.{◌≡◌, ℕ, Bool, true, false, List, [], ◌∷◌, Some}
 use Rattle.semantics.specs.Subject.{Pattern, Atom, Binding, Rule, AtPlaces}
-use Rattle.chase.specs.Chase.{numbered, State, Move, broken, already, overfull, adds, fresh, with_head, step, claim, accepted}
+use Rattle.chase.specs.Chase.{State, Move, broken, already, overfull, adds, numbered, fresh, with_head, step, claim, accepted}
 use Rattle.chase.specs.Firing.{Fires}
 
 -- rule k may be used at the place

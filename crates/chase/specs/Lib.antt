@@ -1,4 +1,5 @@
 pub mod Chase
+pub mod Edges
 pub mod Firing
 pub mod Law
 pub mod Refute

@@ -3,8 +3,8 @@ use Rattle.std.specs.Prelude.{◌≡◌, ℕ, ◌+◌, ◌<◌, Bool, true, fals
 use Rattle.std.specs.List.{AllByRecursion}
 use Rattle.semantics.specs.Subject.{Slot, con, var, Pattern, Atom, Binding, Rule, Candidate, Obeys, HasMatch, Match, Model}
 use Rattle.semantics.specs.Computed.{guard}
-use Rattle.chase.specs.Chase.{numbered, PlainRule, PlainAll, IsFact}
-use Rattle.chase.specs.Chase.{State, start, run, claim, accepted, refused, Refuted, found, guard_of, step, Move, adds}
+use Rattle.chase.specs.Chase.{PlainRule, PlainAll, IsFact}
+use Rattle.chase.specs.Chase.{State, start, run, claim, accepted, refused, Refuted, found, numbered, guard_of, step, Move, adds}
 use Rattle.semantics.specs.Subject.{On}
 use Rattle.semantics.specs.Computed.{nothing, fit}
 

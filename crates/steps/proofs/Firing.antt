@@ -29,16 +29,16 @@ module _ (b c : Binding) (n : ℕ) (h : Pattern) (is : c ≡ (fresh b n h.slots)
 
 -- the guard p of the rule, at index k
 module _ (pile : List Atom) (rule : subject.Rule) (place : ℕ) (k : ℕ) (g : Guards rule.body k) (p : Pattern) (same : p ≡ g.pattern) where
-  pub not_fired : (e : Refusal) → NotFitted pile nothing 0 p place e → NotFired pile rule place e
-  not_fired e (place_past is none) = past is none
-  not_fired e (place_unfit a is there none) = unfit k g a is there (subst (λ q. NoFit nothing q a) same (subst (Fitted nothing p a) none (fit_fitted nothing p a)))
+  pub not_fired : (nulls : ℕ) (e : Refusal) → NotFitted pile nothing 0 p place e → NotFired pile rule place nulls e
+  not_fired nulls e (place_past is none) = past is none
+  not_fired nulls e (place_unfit a is there none) = unfit k g a is there (subst (λ q. NoFit nothing q a) same (subst (Fitted nothing p a) none (fit_fitted nothing p a)))
 
   module _ (a : Atom) (b : Binding) (there : slice_get pile place ≡ Some a) (fits : fit nothing p a ≡ Some b) where
     least : LeastFit nothing g.pattern a b
     least = subst (λ q. LeastFit nothing q a b) same (subst (Fitted nothing p a) fits (fit_fitted nothing p a))
 
-    pub side_missing : (e : Refusal) (i : ℕ) → Is e 14 i 0 → FirstMissing pile b rule.body (Some i) → NotFired pile rule place e
-    side_missing e i is f = missing k g a b i is there least f
+    pub side_missing : (nulls : ℕ) (e : Refusal) (i : ℕ) → Is e 14 i 0 → FirstMissing pile b rule.body (Some i) → NotFired pile rule place nulls e
+    side_missing nulls e i is f = missing k g a b i is there least f
 
     pub fires : AllByRecursion (Holds (On pile) b) rule.body → Fires pile rule place b
     fires every = record {

@@ -21,23 +21,19 @@ abbrev pub Borne : Binding → ℕ → Pattern → Option Head → Type 0
 Borne b n h (Some x) = Bears b n h (atom_meant x.atom) x.nulls
 Borne b n h None = 1000000 < (fresh b n h.slots).1
 
--- why the rule may not be used at the place
-pub data NotFired (pile : List Atom) (rule : subject.Rule) (place : ℕ) (e : Refusal) : Type 0 where
-  -- 12 (0, place): no atom is at the place
-  past : Is e 12 0 place → slice_get pile place ≡ None → NotFired pile rule place e
-  -- 13 (0, place): the atom there does not fit the guard
-  unfit : (k : ℕ) (g : Guards rule.body k) (a : Atom) → Is e 13 0 place → slice_get pile place ≡ Some a → NoFit nothing g.pattern a → NotFired pile rule place e
-  -- 14 (body index): the first body pattern that, bound by the guard, is not on the pile
-  missing : (k : ℕ) (g : Guards rule.body k) (a : Atom) (b : Binding) (i : ℕ) → Is e 14 i 0 → slice_get pile place ≡ Some a → LeastFit nothing g.pattern a b → FirstMissing pile b rule.body (Some i) → NotFired pile rule place e
-
 module _ (pile : List Atom) (rule : subject.Rule) (place nulls : ℕ) where
   -- why the rule does not give its head there
-  pub data NoHead (e : Refusal) : Type 0 where
-    stopped : NotFired pile rule place e → NoHead e
+  pub data NotFired (e : Refusal) : Type 0 where
+    -- 12 (0, place): no atom is at the place
+    past : Is e 12 0 place → slice_get pile place ≡ None → NotFired e
+    -- 13 (0, place): the atom there does not fit the guard
+    unfit : (k : ℕ) (g : Guards rule.body k) (a : Atom) → Is e 13 0 place → slice_get pile place ≡ Some a → NoFit nothing g.pattern a → NotFired e
+    -- 14 (body index): the first body pattern that, bound by the guard, is not on the pile
+    missing : (k : ℕ) (g : Guards rule.body k) (a : Atom) (b : Binding) (i : ℕ) → Is e 14 i 0 → slice_get pile place ≡ Some a → LeastFit nothing g.pattern a b → FirstMissing pile b rule.body (Some i) → NotFired e
     -- 15: the rule may be used, and there are not nulls enough
-    no_null : (b : Binding) → Is e 15 0 0 → Fires pile rule place b → 1000000 < (fresh b nulls rule.head.slots).1 → NoHead e
+    no_null : (b : Binding) → Is e 15 0 0 → Fires pile rule place b → 1000000 < (fresh b nulls rule.head.slots).1 → NotFired e
 
   -- the rule's head where the rule may be used; or why not
   abbrev pub Judged : Result Head Refusal → Type 0
   Judged (Ok h) = (b : Binding) × Fires pile rule place b × Bears b nulls rule.head (atom_meant h.atom) h.nulls
-  Judged (Err e) = NoHead e
+  Judged (Err e) = NotFired e

@@ -1,3 +1,4 @@
 pub mod Heads
 pub mod Judged
 pub mod Sides
+pub mod Stopping

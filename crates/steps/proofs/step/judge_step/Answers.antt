@@ -19,7 +19,7 @@ use Rattle.declarations.specs.Bodies.{patterns_meant, patterns_listed}
 use Rattle.rules.specs.declared.rule.Rule.{Rule}
 use Rattle.rules.proofs.Scanning.{guard_at}
 use Rattle.rules.specs.Meaning.{rule_meant}
-use Rattle.steps.specs.Judged.{Judged, Borne, stopped, no_null}
+use Rattle.steps.specs.Judged.{Judged, Borne, no_null}
 use Rattle.steps.specs.Sides.{FirstMissing}
 use Rattle.steps.proofs.Firing.{not_fired, side_missing, fires}
 use Rattle.steps.proofs.step.judge_step.Goals as goal
@@ -38,8 +38,8 @@ returns-in_err-binding g c =
     let p = c.guard_pattern.result.now in
     let e = err_from_is_err_and c.from_residual.result c.from_residual.ensures.1 in
     subst (Judged xs (rule_meant r) c.args.place c.args.nulls) (sym (e.1 ∙ ap Err e.2))
-    (stopped (not_fired xs (rule_meant r) c.args.place r.guard (guarded r) (pattern_meant p) (same_guard r p c.guard_pattern.ensures) _
-    (subst (λ b. NotFitted xs b 0 (pattern_meant p) c.args.place c.in_err-binding.field-0.0) (fun_ext c.unbound.ensures) c.in_err-binding.ensures)))
+    (not_fired xs (rule_meant r) c.args.place r.guard (guarded r) (pattern_meant p) (same_guard r p c.guard_pattern.ensures) c.args.nulls _
+    (subst (λ b. NotFitted xs b 0 (pattern_meant p) c.args.place c.in_err-binding.field-0.0) (fun_ext c.unbound.ensures) c.in_err-binding.ensures))
 
 pub returns-in-Some : goal.returns-in-Some
 returns-in-Some g c =
@@ -48,8 +48,8 @@ returns-in-Some g c =
     let p = c.guard_pattern.result.now in
     let b = bound c.in_ok-binding.binding in
     let f : FittedAt xs nothing 0 (pattern_meant p) c.args.place (Ok b) = subst (λ d. FittedAt xs d 0 (pattern_meant p) c.args.place (Ok b)) (fun_ext c.unbound.ensures) c.in_ok-binding.ensures in
-    stopped (side_missing xs (rule_meant r) c.args.place r.guard (guarded r) (pattern_meant p) (same_guard r p c.guard_pattern.ensures) f.0 b f.1 f.2 _ c.in-Some.pattern (refl, refl, refl)
-    (subst (λ ps. FirstMissing xs b (map pattern_meant ps) (Some c.in-Some.pattern)) c.body.ensures c.in-Some.ensures))
+    side_missing xs (rule_meant r) c.args.place r.guard (guarded r) (pattern_meant p) (same_guard r p c.guard_pattern.ensures) f.0 b f.1 f.2 c.args.nulls _ c.in-Some.pattern (refl, refl, refl)
+    (subst (λ ps. FirstMissing xs b (map pattern_meant ps) (Some c.in-Some.pattern)) c.body.ensures c.in-Some.ensures)
 
 pub returns-in-Some-bear : goal.returns-in-Some-bear
 returns-in-Some-bear g c =
