@@ -1,6 +1,6 @@
 -- The equality of the terms of ground atoms decides, as that of atoms asks.
 use Rattle.std.proofs.Common.{◌≡◌, Decides, sym, subst}
-use Rattle.rows.specs.Rows.{Deciding}
+use Rattle.short_rows.specs.Rows.{Deciding}
 use Rattle.terms.specs.Equal.{term_eq}
 use Rattle.terms.specs.Deciding.{term_decides}
 use Rattle.terms.specs.declared.term.Term.{Term}

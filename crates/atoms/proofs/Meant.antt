@@ -6,10 +6,10 @@ use Rattle.terms.specs.declared.term.Term.{Term}
 use Rattle.terms.proofs.Meant.{same_meant}
 use Rattle.terms.specs.Same.{same_predicate}
 use Rattle.atoms.specs.Meaning.{atom_meant}
-use Rattle.rows.specs.Rows.{listed}
+use Rattle.short_rows.specs.Rows.{listed}
 use Rattle.atoms.specs.declared.atom.Atom.{Atom}
-use Rattle.rows.specs.declared.row.Row.{Row}
-use Rattle.rows.specs.declared.row.Row.TheVariants.{One, Two, Three, Four}
+use Rattle.short_rows.specs.declared.row.Row.{Row}
+use Rattle.short_rows.specs.declared.row.Row.TheVariants.{One, Two, Three, Four}
 
 same_terms : (xs ys : List Term) → map term_meant xs ≡ map term_meant ys → xs ≡ ys
 same_terms [] [] e = λ i. []

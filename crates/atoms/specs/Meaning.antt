@@ -5,7 +5,7 @@ use Rattle.terms.specs.Meaning.{term_meant, constant_meant, slot_meant}
 use Rattle.terms.specs.declared.constant.Constant.{Constant}
 use Rattle.terms.specs.declared.term.Term.{Term}
 use Rattle.terms.specs.declared.term.PatternTerm.{PatternTerm}
-use Rattle.rows.specs.Rows.{listed}
+use Rattle.short_rows.specs.Rows.{listed}
 use Rattle.atoms.specs.declared.atom.Atom.{Atom}
 
 abbrev pub atom_meant : Atom Term → subject.Atom

@@ -1,6 +1,6 @@
 //! A predicate with its terms.
 ghost use Rattle.std.specs.Prelude.{◌≡◌, ◌&&◌, Decides};
-ghost use Rattle.rows.specs.Rows.{listed, Deciding};
+ghost use Rattle.short_rows.specs.Rows.{listed, Deciding};
 ghost use Rattle.terms.specs.Equal.{predicate_eq};
 ghost use Rattle.terms.specs.Deciding.{predicate_per};
 ghost use Rattle.std.specs.Cmp.{on_per, and_per};
@@ -8,7 +8,7 @@ ghost use Rattle.std.specs.Cmp.Lexicographic.{lists_per};
 ghost use Rattle.std.specs.Ordering.{on, eq_of_both};
 ghost use lib.Pointwise.{pointwise};
 
-use rows::row::Row;
+use short_rows::row::Row;
 use terms::constant::Constant;
 use terms::predicate::Predicate;
 use terms::term::{PatternTerm, Term};

@@ -1,10 +1,10 @@
 //! Facts as ground atoms.
-ghost use Rattle.rows.specs.Rows.{listed};
+ghost use Rattle.short_rows.specs.Rows.{listed};
 ghost use Rattle.terms.specs.declared.term.Term.TheVariants.{Constant as fixed};
 ghost use Rattle.std.specs.Prelude.{◌≡◌, map};
 
 use crate::atom::{Atom, GroundAtom};
-use rows::row::Row;
+use short_rows::row::Row;
 use terms::constant::Constant;
 use terms::term::Term;
 

@@ -4,7 +4,7 @@ ghost use Rattle.semantics.specs.Subject.{in_slots};
 ghost use Rattle.atoms.specs.Meaning.{pattern_meant};
 
 use crate::atom::Atom;
-use rows::row::Row;
+use short_rows::row::Row;
 use terms::term::PatternTerm;
 use terms::variable::Variable;
 

@@ -10,10 +10,10 @@ use Rattle.chase.specs.Chase.{fresh, fresh_slot, fresh_var}
 use Rattle.terms.specs.declared.term.Term.{Term}
 use Rattle.terms.specs.declared.term.PatternTerm.{PatternTerm}
 use Rattle.atoms.specs.Meaning.{pattern_meant}
-use Rattle.rows.specs.Rows.{listed}
+use Rattle.short_rows.specs.Rows.{listed}
 use Rattle.atoms.specs.declared.atom.Atom.{Atom}
-use Rattle.rows.specs.declared.row.Row.{Row}
-use Rattle.rows.specs.declared.row.Row.TheVariants.{One, Two, Three, Four}
+use Rattle.short_rows.specs.declared.row.Row.{Row}
+use Rattle.short_rows.specs.declared.row.Row.TheVariants.{One, Two, Three, Four}
 use Rattle.terms.specs.Meaning.{slot_meant}
 use Rattle.reading.specs.declared.raw.RawAtom.{RawAtom}
 use Rattle.refusals.specs.declared.refusal.Refusal.{Refusal}

@@ -6,7 +6,7 @@ use Rattle.terms.specs.declared.constant.Constant as con
 use Rattle.terms.specs.declared.term.Term.{Term}
 use Rattle.terms.specs.declared.term.Term.TheVariants.{Constant, Null}
 use Rattle.atoms.specs.Meaning.{atom_meant}
-use Rattle.rows.specs.Rows.{listed}
+use Rattle.short_rows.specs.Rows.{listed}
 use Rattle.atoms.specs.declared.atom.Atom.{Atom}
 use Rattle.reading.specs.Written.{constant_written, term_written}
 use Rattle.reading.specs.declared.raw.RawAtom.{RawAtom}

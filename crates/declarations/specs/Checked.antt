@@ -2,7 +2,7 @@
 use Rattle.std.specs.Prelude.{◌≡◌, ℕ, List, map, length, take, Some, None, Ok, Err, Result, ◌≢◌}
 use Rattle.std.specs.List.{slice_get, AllByRecursion}
 use Rattle.refusals.specs.Refusals.{Is}
-use Rattle.rows.specs.Rows.{listed, listed_or_none}
+use Rattle.short_rows.specs.Rows.{listed, listed_or_none}
 use Rattle.reading.specs.Written.{Readable, Unreadable}
 use Rattle.atoms.specs.declared.atom.Atom.{Atom}
 use Rattle.reading.specs.declared.raw.RawAtom.{RawAtom}

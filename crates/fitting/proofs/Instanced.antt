@@ -5,8 +5,8 @@ use Rattle.std.specs.Option.{option_map}
 use Rattle.semantics.specs.Subject.{Slot, Binding, Gives, GivesAll}
 use Rattle.semantics.proofs.Fitting.{some_is, none_some}
 use Rattle.terms.specs.Meaning.{term_meant}
-use Rattle.rows.specs.Rows.{listed}
-use Rattle.rows.specs.declared.row.Row.{Row}
+use Rattle.short_rows.specs.Rows.{listed}
+use Rattle.short_rows.specs.declared.row.Row.{Row}
 use Rattle.terms.specs.declared.term.Term.{Term}
 use Rattle.fitting.specs.Instances.{Given, AllGiven}
 

@@ -5,12 +5,12 @@ ghost use Rattle.semantics.specs.Subject.{Fitted};
 ghost use Rattle.std.specs.Option.{option_map};
 ghost use Rattle.atoms.specs.Meaning.{atom_meant, pattern_meant};
 ghost use Rattle.terms.specs.Meaning.{term_meant, slot_meant};
-ghost use Rattle.rows.specs.Rows.{listed};
+ghost use Rattle.short_rows.specs.Rows.{listed};
 ghost use Rattle.std.specs.Prelude.{◌≡◌, map};
 
 use crate::binding::Binding;
 use atoms::atom::{GroundAtom, Pattern};
-use rows::row::Row;
+use short_rows::row::Row;
 use terms::term::{PatternTerm, Term};
 
 /// The binding, extended so that the slot is the term.

@@ -3,7 +3,7 @@ use Rattle.std.proofs.Common.{◌≡◌, ℕ, ◌+◌, ◌<◌, ◌≤◌, ltb, 
 use Rattle.std.proofs.lemmas.List.{take_more_set, length-take-le, length-take, take_all}
 use Rattle.std.proofs.lemmas.Bool.{cond-true, lt-ltb}
 use Rattle.reading.specs.declared.raw.RawTerm.{RawTerm}
-use Rattle.rows.specs.Rows.{listed_or_none}
+use Rattle.short_rows.specs.Rows.{listed_or_none}
 use Rattle.reading.specs.declared.raw.RawAtom.{RawAtom}
 use Rattle.lines.specs.declared.atom.WrittenAtom.{WrittenAtom}
 use Rattle.lines.specs.Atoms.{told, said, extends}

@@ -1,7 +1,7 @@
 -- An atom as it is written.
 use Rattle.std.specs.Prelude.{ℕ, ◌^◌, ◌<◌, ◌≤◌, cond, List, [], ◌∷◌, ◌++◌, length, take, Some, None, decimal, Option, nat_lt}
 use Rattle.std.specs.List.{flat_map, AllByRecursion as All}
-use Rattle.rows.specs.Rows.{listed_or_none}
+use Rattle.short_rows.specs.Rows.{listed_or_none}
 use Rattle.reading.specs.declared.raw.RawAtom.{RawAtom}
 use Rattle.reading.specs.declared.raw.RawTerm.{RawTerm}
 use Rattle.reading.specs.declared.raw.RawTerm.TheVariants as raw

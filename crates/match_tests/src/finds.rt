@@ -5,7 +5,7 @@ use flat::flat::FlatShelf;
 use matching::find::find_match;
 use matching::places::fit_places;
 use reading::raw::RawTerm;
-use rows::row::Row;
+use short_rows::row::Row;
 use shelves::placed::Placed;
 use shelves::record::Record;
 use shelves::stock::{Shelf, Stock};

@@ -6,7 +6,7 @@ use fitting::fit::fit;
 use fitting::instance::bound_atom;
 use fitting::trial::head_fits;
 use reading::raw::RawTerm;
-use rows::row::Row;
+use short_rows::row::Row;
 use std::process::Abort;
 use std::test::Fail;
 

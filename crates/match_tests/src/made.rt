@@ -5,7 +5,7 @@ use fitting::instance::bound_atom;
 use reading::raw::RawTerm;
 use reading::sort::read_row;
 use refusals::refusal::Refusal;
-use rows::row::Row;
+use short_rows::row::Row;
 use std::process::Abort;
 use std::test::Fail;
 use terms::predicate::Predicate;

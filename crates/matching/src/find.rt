@@ -7,12 +7,12 @@ ghost use Rattle.semantics.specs.Subject.{On, Searched, in_patterns};
 ghost use Rattle.std.specs.Option.{option_map};
 ghost use Rattle.atoms.specs.Meaning.{pattern_meant};
 ghost use Rattle.terms.specs.Meaning.{slot_meant};
-ghost use Rattle.rows.specs.Rows.{listed};
+ghost use Rattle.short_rows.specs.Rows.{listed};
 
 use atoms::atom::Pattern;
 use fitting::binding::{Binding, unbound};
 use fitting::fit::fit;
-use rows::row::Row;
+use short_rows::row::Row;
 use shelves::stock::Stock;
 use terms::term::PatternTerm;
 use terms::variable::Variable;

@@ -1,6 +1,6 @@
 //! Whether an atom is a fact of a book.
 ghost use Rattle.atoms.specs.Meaning.{atom_meant};
-ghost use Rattle.rows.specs.Rows.{listed};
+ghost use Rattle.short_rows.specs.Rows.{listed};
 ghost use Rattle.book.specs.Theory.{predicates_of};
 ghost use Rattle.chase.specs.Unfit.{IsConstant, FactOf};
 ghost use Rattle.semantics.specs.Subject.{numbered};
@@ -10,7 +10,7 @@ ghost use Rattle.terms.specs.Meaning.{term_meant};
 
 use atoms::atom::GroundAtom;
 use book::book::Book;
-use rows::row::Row;
+use short_rows::row::Row;
 use terms::term::Term;
 
 /// Whether the term is a constant.

@@ -1,12 +1,12 @@
 //! A filter that says of most atoms that they have not been met.
 ghost use Rattle.std.specs.Prelude.{◌≡◌, ◌<◌, true, false, map, length, slice_index_or, slice_set};
 ghost use Rattle.atoms.specs.Meaning.{atom_meant};
-ghost use Rattle.rows.specs.Rows.{listed};
+ghost use Rattle.short_rows.specs.Rows.{listed};
 ghost use Rattle.openings.specs.Filters.{weights, weighed, slot_of};
 ghost use Rattle.terms.specs.Meaning.{term_meant};
 
 use atoms::atom::GroundAtom;
-use rows::row::Row;
+use short_rows::row::Row;
 use terms::term::Term;
 
 /// How many slots there are: a prime, so that few atoms of a regular catalogue share one.

@@ -9,7 +9,7 @@ use Rattle.terms.specs.Meaning.{slot_meant}
 use Rattle.terms.specs.declared.term.PatternTerm.{PatternTerm}
 use Rattle.terms.specs.declared.term.PatternTerm.TheVariants as slot
 use Rattle.atoms.specs.Meaning.{pattern_meant}
-use Rattle.rows.specs.Rows.{listed}
+use Rattle.short_rows.specs.Rows.{listed}
 use Rattle.atoms.specs.declared.atom.Atom.{Atom}
 use Rattle.matching.proofs.Rounds.{nth_map}
 use Rattle.declarations.specs.Bodies.{patterns_listed, patterns_meant}

@@ -1,7 +1,7 @@
 -- A checker as the plain things that its calls speak of.
 use Rattle.std.specs.Prelude.{◌≡◌, ℕ, ◌+◌, ◌-◌, ◌≤◌, ◌⊎◌, List, [], ◌∷◌, ◌++◌, map, length}
 use Rattle.semantics.specs.Subject.{Atom}
-use Rattle.rows.specs.Rows.{listed_or_none}
+use Rattle.short_rows.specs.Rows.{listed_or_none}
 use Rattle.reading.specs.declared.raw.RawAtom.{RawAtom}
 use Rattle.reading.specs.declared.raw.RawTerm.{RawTerm}
 use Rattle.reading.specs.declared.raw.RawTerm.TheVariants as raw

@@ -3,7 +3,7 @@ use Rattle.std.proofs.Common.{◌≡◌, ℕ, List, take, IsErrAnd, Some, Ok, Er
 use Rattle.std.specs.List.{slice_get, AllByRecursion}
 use Rattle.std.proofs.lemmas.Result.{err_from_is_err_and}
 use Rattle.reading.specs.declared.raw.RawTerm.{RawTerm}
-use Rattle.rows.specs.declared.row.Row.{Row}
+use Rattle.short_rows.specs.declared.row.Row.{Row}
 use Rattle.reading.specs.Written.{Readable, ReadsAt, ReadsAll}
 
 pub stops : {T : Type 0} (written : T → RawTerm) (ws vs : List RawTerm) (i j : ℕ) (w : RawTerm) (r : Result (Row T) ℕ) → IsErrAnd r (λ k. k ≡ j) → ReadsAt written w i (Err j) → ws ≡ vs → slice_get vs i ≡ Some w → AllByRecursion (Readable written) (take i vs) → ReadsAll written ws r

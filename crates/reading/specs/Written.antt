@@ -1,8 +1,8 @@
 -- How terms are written, and what reads them back.
 use Rattle.std.specs.Prelude.{◌≡◌, ℕ, ◌+◌, List, [], ◌∷◌, map, take, Some, None, Ok, Err, Option, Result, ◌≢◌}
 use Rattle.std.specs.List.{slice_get, AllByRecursion}
-use Rattle.rows.specs.Rows.{listed}
-use Rattle.rows.specs.declared.row.Row.{Row}
+use Rattle.short_rows.specs.Rows.{listed}
+use Rattle.short_rows.specs.declared.row.Row.{Row}
 use Rattle.terms.specs.declared.constant.Constant.{Constant}
 use Rattle.terms.specs.declared.term.Term.{Term}
 use Rattle.terms.specs.declared.term.Term.TheVariants as ground_term

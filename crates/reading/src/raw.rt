@@ -1,8 +1,8 @@
 //! Atoms as a caller writes them, unchecked.
 ghost use Rattle.std.specs.Prelude.{◌≡◌, ◌≤◌, min, length, take};
-ghost use Rattle.rows.specs.Rows.{listed_or_none};
+ghost use Rattle.short_rows.specs.Rows.{listed_or_none};
 
-use rows::row::Row;
+use short_rows::row::Row;
 
 /// A term of any sort, with any number.
 #[derive(Clone, Copy)]

@@ -1,11 +1,11 @@
 //! Reading raw terms as terms of a sort.
 ghost use Rattle.std.specs.Prelude.{Option};
-ghost use Rattle.rows.specs.Rows.{listed};
+ghost use Rattle.short_rows.specs.Rows.{listed};
 ghost use Rattle.reading.specs.Written.{constant_written, term_written, slot_written, Reads, ReadsAt, ReadsAll};
 ghost use Rattle.reading.specs.declared.raw.RawTerm.{RawTerm};
 
 use crate::raw::RawTerm;
-use rows::row::Row;
+use short_rows::row::Row;
 use terms::constant::Constant;
 use terms::null::Null;
 use terms::term::{PatternTerm, Term};

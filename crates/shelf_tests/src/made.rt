@@ -1,6 +1,6 @@
 //! Atoms to put, and looks at what then stands.
 use atoms::atom::{Atom, GroundAtom};
-use rows::row::Row;
+use short_rows::row::Row;
 use shelves::placed::Placed;
 use shelves::stock::{Shelf, Stock};
 use std::process::Abort;

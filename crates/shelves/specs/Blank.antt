@@ -2,7 +2,7 @@
 use Rattle.std.proofs.Common.{lit≤}
 use Rattle.atoms.specs.declared.atom.Atom.{Atom}
 use Rattle.terms.specs.declared.predicate.Predicate.{Predicate}
-use Rattle.rows.specs.declared.row.Row.TheVariants.{One}
+use Rattle.short_rows.specs.declared.row.Row.TheVariants.{One}
 use Rattle.terms.specs.declared.constant.Constant as con
 use Rattle.terms.specs.declared.term.Term.{Term}
 use Rattle.terms.specs.declared.term.Term.TheVariants.{Constant}

@@ -3,7 +3,7 @@ ghost use Rattle.std.specs.Prelude.{◌≡◌};
 ghost use Rattle.shelves.specs.Blank.{blank_atom, first_predicate, first_constant};
 
 use atoms::atom::{Atom, GroundAtom};
-use rows::row::Row;
+use short_rows::row::Row;
 use terms::constant::Constant;
 use terms::predicate::Predicate;
 use terms::term::Term;

@@ -60,7 +60,7 @@ slot_keeps b n (con c) j h = h
 slot_keeps b n (var i) j h = go (b i)
   where
     go : (o : Option ℕ) → is_some ((fresh_var b n i o).0 j) ≡ true
-    go None = put_some (eqb j i)
+    go None = put_some (eqb i j)
       where
         put_some : (w : Bool) → is_some (cond w (Some (1000000 + n)) (b j)) ≡ true
         put_some true = refl

@@ -1,6 +1,6 @@
 //! Making an atom word by word, and reading it.
 ghost use Rattle.std.specs.Prelude.{◌≡◌, ◌≤◌, length, take};
-ghost use Rattle.rows.specs.Rows.{listed_or_none};
+ghost use Rattle.short_rows.specs.Rows.{listed_or_none};
 ghost use Rattle.lines.specs.Atoms.{told, said, begins, extends, takes};
 ghost use Rattle.std.specs.Option.{option_map};
 

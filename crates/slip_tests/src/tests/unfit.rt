@@ -2,7 +2,7 @@
 use atoms::atom::{Atom, GroundAtom};
 use checker::checker::Checker;
 use flat::flat::FlatShelf;
-use rows::row::Row;
+use short_rows::row::Row;
 use shelves::record::Record;
 use shelves::stock::Shelf;
 use std::test::Fail;

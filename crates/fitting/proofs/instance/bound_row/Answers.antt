@@ -1,6 +1,6 @@
 use Rattle.std.proofs.Common.{map, refl, ap}
 use Rattle.terms.specs.Meaning.{slot_meant}
-use Rattle.rows.specs.Rows.{listed}
+use Rattle.short_rows.specs.Rows.{listed}
 use Rattle.fitting.specs.Bindings.{bound}
 use Rattle.fitting.proofs.Instanced.{stops}
 use Rattle.fitting.proofs.instance.bound_row.Goals as goal

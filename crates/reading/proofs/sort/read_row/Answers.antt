@@ -1,5 +1,5 @@
 use Rattle.std.proofs.Common.{refl, ap}
-use Rattle.rows.specs.Rows.{listed}
+use Rattle.short_rows.specs.Rows.{listed}
 use Rattle.reading.proofs.Rowwise.{stops}
 use Rattle.reading.proofs.sort.read_row.Goals as goal
 

@@ -2,7 +2,7 @@ use Rattle.std.proofs.Common.{◌≡◌, ◌+◌, ◌<◌, ◌≤◌, map, lengt
 use Rattle.chase.specs.Chase.{fresh}
 use Rattle.terms.specs.Meaning.{slot_meant}
 use Rattle.atoms.specs.Meaning.{pattern_meant}
-use Rattle.rows.specs.Rows.{listed}
+use Rattle.short_rows.specs.Rows.{listed}
 use Rattle.fitting.specs.Bindings.{bound}
 use Rattle.steps.specs.Heads.{Freshened}
 use Rattle.steps.specs.declared.head.Fresh.{Fresh}

@@ -1,6 +1,6 @@
 use Rattle.std.proofs.Common.{◌≡◌, map, drop}
 use Rattle.chase.specs.Chase.{fresh}
-use Rattle.rows.specs.Rows.{listed}
+use Rattle.short_rows.specs.Rows.{listed}
 use Rattle.terms.specs.Meaning.{slot_meant}
 use Rattle.fitting.specs.Bindings.{bound}
 use Rattle.steps.proofs.head.with_nulls.Given as goal

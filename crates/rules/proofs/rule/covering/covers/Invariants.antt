@@ -1,7 +1,7 @@
 use Rattle.std.proofs.Common.{◌≡◌, map, drop}
 use Rattle.semantics.specs.Computed.{covers}
 use Rattle.terms.specs.Meaning.{slot_meant}
-use Rattle.rows.specs.Rows.{listed}
+use Rattle.short_rows.specs.Rows.{listed}
 use Rattle.rules.specs.Covering.{slots_meant}
 use Rattle.rules.proofs.rule.covering.covers.Given as goal
 

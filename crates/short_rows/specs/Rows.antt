@@ -1,7 +1,7 @@
 -- Rows as lists.
 use Rattle.std.specs.Prelude.{◌≡◌, Bool, List, [], ◌∷◌, Some, None, Decides, Option}
-use Rattle.rows.specs.declared.row.Row.{Row}
-use Rattle.rows.specs.declared.row.Row.TheVariants.{One, Two, Three, Four}
+use Rattle.short_rows.specs.declared.row.Row.{Row}
+use Rattle.short_rows.specs.declared.row.Row.TheVariants.{One, Two, Three, Four}
 
 -- a row, as a list of one to four
 abbrev pub listed : {T : Type 0} → Row T → List T

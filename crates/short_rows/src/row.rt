@@ -1,7 +1,7 @@
 //! One to four of a kind.
 ghost use Rattle.std.specs.List.{slice_get};
 ghost use Rattle.std.specs.Prelude.{◌≡◌, length, Decides};
-ghost use Rattle.rows.specs.Rows.{listed, Deciding};
+ghost use Rattle.short_rows.specs.Rows.{listed, Deciding};
 ghost use Rattle.std.specs.Cmp.{on_per};
 ghost use Rattle.std.specs.Cmp.Lexicographic.{lists_per};
 ghost use Rattle.std.specs.Ordering.{on};
