@@ -1,5 +1,5 @@
 -- The reading of each kind of line is the inverse of its writing.
-use Rattle.std.proofs.Common.{◌≡◌, ℕ, suc, ◌+◌, ◌^◌, ◌<◌, ◌≤◌, Bool, true, false, cond, ◌&&◌, eqb, leb, List, [], ◌∷◌, ◌++◌, map, length, get_or, drop, Some, None, decimal, Option, sym, refl, ap, ◌∙◌, subst, append-nil, arith}
+use Rattle.std.proofs.Common.{◌≡◌, ℕ, ◌^◌, ◌<◌, ◌≤◌, Bool, true, false, cond, ◌&&◌, eqb, leb, List, [], ◌∷◌, ◌++◌, map, length, get_or, drop, Some, None, decimal, Option, sym, refl, ap, ◌∙◌, subst, append-nil, arith}
 use Rattle.std.specs.List.{flat_map, AllByRecursion as All}
 use Rattle.std.specs.Option.{option_map}
 use Rattle.std.proofs.lemmas.List.{append_assoc, length-map}
@@ -12,7 +12,7 @@ use Rattle.words.proofs.Scans.{no_none}
 use Rattle.lines.specs.Atoms.{Said, atom_text, SmallTerm, GoodAtom}
 use Rattle.lines.specs.Sentences.{Spoken, list_text, spoken_text, GoodSpoken, bound, spoken_of}
 use Rattle.lines.proofs.Speech.{spoken_inverse}
-use Rattle.kinds.specs.Kinds.{Ruled, rule_text, GoodList, GoodRule, numbers_text, Asked, open_derivation, open_model, step, add, lodge, claim, clash, refute, strike, asked_text, SmallNumber, GoodPlaces, GoodAsked, only_atom, sole_of, few_of, plain_of, rule_from, bare_of, if_bare, barely, numbers_of, numbered_of, fact_of, list_of, rule_of, no_terms, arity_of, asked_with, asked_of}
+use Rattle.kinds.specs.Kinds.{Ruled, rule_text, GoodList, GoodRule, numbers_text, Asked, open_derivation, open_model, step, add, lodge, claim, clash, refute, strike, asked_text, SmallNumber, GoodAsked, sole_of, few_of, plain_of, rule_from, if_bare, barely, numbers_of, numbered_of, fact_of, list_of, rule_of, no_terms, arity_of, asked_with, asked_of}
 
 -- one reading after another
 chain : {X Y : Type 0} (GoodY : Y → Type 0) (textY : Y → List ℕ) (read_y : List ℕ → Option Y) → Inverse GoodY textY read_y → (Good : X → Type 0) (text : X → List ℕ) (pick : Y → Option X) (embed : X → Y) → ((x : X) → text x ≡ textY (embed x)) → ((y : Y) (x : X) → GoodY y → pick y ≡ Some x → Good x × (embed x ≡ y)) → ((x : X) → Good x → GoodY (embed x) × (pick (embed x) ≡ Some x)) → Inverse Good text (λ bs. bound pick (read_y bs))

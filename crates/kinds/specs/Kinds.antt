@@ -1,10 +1,10 @@
 -- The kinds of lines: how each is written.
-use Rattle.std.specs.Prelude.{◌≡◌, ℕ, ◌^◌, ◌<◌, ◌≤◌, Bool, true, false, cond, ◌&&◌, List, [], ◌∷◌, ◌++◌, map, length, drop, Some, None, decimal, Option, ◌==◌, nat_le, slice_index}
+use Rattle.std.specs.Prelude.{ℕ, ◌^◌, ◌<◌, ◌≤◌, cond, ◌&&◌, List, [], ◌∷◌, ◌++◌, length, drop, Some, None, decimal, Option, ◌==◌, nat_le, slice_index}
 use Rattle.std.specs.List.{flat_map, AllByRecursion as All}
 use Rattle.std.specs.Option.{option_map}
 use Rattle.reading.specs.declared.raw.RawTerm.{RawTerm}
 use Rattle.reading.specs.declared.raw.RawTerm.TheVariants as raw
-use Rattle.lines.specs.Atoms.{Said, said, atom_text, GoodAtom}
+use Rattle.lines.specs.Atoms.{Said, atom_text, GoodAtom}
 use Rattle.lines.specs.Sentences.{Spoken, list_text, bound, spoken_of}
 
 -- a rule: body and head, parted by a semicolon

@@ -1,9 +1,8 @@
 -- What is read from a line, and how it is written.
-use Rattle.std.specs.Prelude.{◌≡◌, ℕ, ◌≤◌, List, map, take, Some, None, Option}
+use Rattle.std.specs.Prelude.{ℕ, ◌≤◌, List, map, take, Some, None, Option}
 use Rattle.std.specs.List.{AllByRecursion as All}
 use Rattle.reading.specs.declared.raw.RawAtom.{RawAtom}
 use Rattle.calls.specs.Named.{named}
-use Rattle.calls.specs.declared.places.Places.{Places}
 use Rattle.lines.specs.Atoms.{Said, told, atom_text, GoodAtom}
 use Rattle.lines.specs.Sentences.{list_text}
 use Rattle.kinds.specs.Kinds.{Ruled, rule_text, GoodList, GoodRule, Asked, open_derivation, open_model, step, add, lodge, claim, clash, refute, strike, asked_text, GoodAsked}

@@ -1,4 +1,4 @@
-use Rattle.std.proofs.Common.{◌≡◌, sym, ap, ◌∙◌, rules}
+use Rattle.std.proofs.Common.{sym, ap, ◌∙◌, rules}
 use Rattle.lines.specs.Sentences.{bound}
 use Rattle.frames.specs.Frames.{within}
 use Rattle.frames.proofs.Cuts.{count_rest}

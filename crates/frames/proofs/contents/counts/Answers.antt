@@ -1,4 +1,4 @@
-use Rattle.std.proofs.Common.{◌≡◌, ℕ, ◌+◌, ◌-◌, cond, eqb, leb, List, [], ◌∷◌, ◌++◌, map, drop, vec_items, sym, ap, ◌∙◌, rules}
+use Rattle.std.proofs.Common.{◌+◌, ◌-◌, eqb, leb, map, drop, vec_items, sym, ap, ◌∙◌, rules}
 use Rattle.std.proofs.lemmas.Bool.{cond-true, cond-false, le-leb, lt-leb, eq-eqb, ne_eqb}
 use Rattle.frames.specs.Frames.{counts_on, letters, mosts}
 use Rattle.frames.proofs.Cuts.{count_turn, counts_few, counts_start, counts_end}

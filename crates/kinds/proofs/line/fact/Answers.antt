@@ -1,4 +1,4 @@
-use Rattle.std.proofs.Common.{◌≡◌, None, sym, ap, ◌∙◌}
+use Rattle.std.proofs.Common.{None, sym, ap, ◌∙◌}
 use Rattle.std.specs.Option.{option_map}
 use Rattle.lines.specs.Atoms.{told, said, GoodAtom, atom_text}
 use Rattle.kinds.specs.Kinds.{fact_of}

@@ -1,4 +1,4 @@
-use Rattle.std.proofs.Common.{◌≡◌, None, sym, ap, ◌∙◌}
+use Rattle.std.proofs.Common.{None, sym, ap, ◌∙◌}
 use Rattle.std.specs.Option.{option_map}
 use Rattle.lines.specs.Sentences.{sentence, bound, list_text}
 use Rattle.kinds.specs.Kinds.{GoodList, list_of, plain_of}

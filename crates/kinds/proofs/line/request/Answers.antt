@@ -1,4 +1,4 @@
-use Rattle.std.proofs.Common.{◌≡◌, get_or, None, sym, ap, ◌∙◌, rules}
+use Rattle.std.proofs.Common.{get_or, None, sym, ap, ◌∙◌, rules}
 use Rattle.std.specs.Option.{option_map}
 use Rattle.lines.specs.Atoms.{said}
 use Rattle.lines.specs.Sentences.{bound}

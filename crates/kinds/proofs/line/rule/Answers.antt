@@ -1,4 +1,4 @@
-use Rattle.std.proofs.Common.{◌≡◌, None, sym, ap, ◌∙◌}
+use Rattle.std.proofs.Common.{None, sym, ap, ◌∙◌}
 use Rattle.std.specs.Option.{option_map}
 use Rattle.lines.specs.Sentences.{sentence, bound}
 use Rattle.kinds.specs.Kinds.{GoodRule, rule_text, rule_of, rule_from}

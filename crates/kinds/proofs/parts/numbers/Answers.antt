@@ -1,4 +1,4 @@
-use Rattle.std.proofs.Common.{◌≡◌, vec_items, sym, refl, ap, ◌∙◌, subst, rules}
+use Rattle.std.proofs.Common.{vec_items, sym, ◌∙◌}
 use Rattle.std.proofs.lemmas.List.{at_drop_all}
 use Rattle.kinds.specs.Kinds.{barely}
 use Rattle.kinds.proofs.Tests.{bare_turn, bare_stop}

@@ -1,4 +1,4 @@
-use Rattle.std.proofs.Common.{◌≡◌, take, drop, vec_items}
+use Rattle.std.proofs.Common.{◌≡◌, drop, vec_items}
 use Rattle.lines.specs.Atoms.{said}
 use Rattle.kinds.specs.Kinds.{barely, numbers_of}
 use Rattle.kinds.proofs.parts.numbers.Given as goal
