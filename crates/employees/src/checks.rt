@@ -9,7 +9,7 @@ use calls::call::Call;
 use calls::candidate::Candidate;
 use calls::event::Event;
 use checker::checker::Checker;
-use flat::flat::FlatShelf;
+use flat_shelf::flat::FlatShelf;
 use runs::conduct::{Unmade, conduct};
 use runs::pool::Slot;
 use shelves::record::Record;

@@ -10,7 +10,7 @@ use anyhow::anyhow;
 use book::book::Book;
 use book::draft::Draft;
 use checks::check_all;
-use flat::flat::FlatShelf;
+use flat_shelf::flat::FlatShelf;
 use personnel::{facts, unfit_entries, unfit_facts, write_down};
 use shelves::record::Record;
 use shelves::stock::Shelf;

@@ -1,7 +1,7 @@
 //! Tests of finding matches, and of fitting at named places.
 use crate::made::{Unfit, atom, bound_is, c, figures, pattern, v};
 use atoms::atom::Pattern;
-use flat::flat::FlatShelf;
+use flat_shelf::flat::FlatShelf;
 use matching::find::find_match;
 use matching::places::fit_places;
 use reading::raw::RawTerm;

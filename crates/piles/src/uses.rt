@@ -2,11 +2,11 @@
 ghost use Rattle.std.specs.Prelude.{◌≡◌, true, Decides};
 ghost use Rattle.std.specs.List.{ContainsAt as Has};
 ghost use Rattle.piles.specs.Ensured.{Ensured};
-ghost use Rattle.flat.specs.Flat.{written};
+ghost use Rattle.flat_shelf.specs.Flat.{written};
 ghost use Rattle.shelves.specs.declared.placed.Placed.TheVariants.{At};
 
 use atoms::atom::GroundAtom;
-use flat::flat::FlatShelf;
+use flat_shelf::flat::FlatShelf;
 use overlays::overlay::Overlay;
 use shelves::placed::Placed;
 use shelves::record::Record;

@@ -12,8 +12,8 @@ use Rattle.chase.proofs.Refutes.{same_part}
 use Rattle.refusals.specs.declared.refusal.Refusal.{Refusal}
 use Rattle.matching.specs.Places.{NotPlaced}
 use Rattle.matching.specs.Places as places
-use Rattle.steps.specs.Judged as judged
-use Rattle.steps.specs.Judged.{NotFired}
+use Rattle.steps.specs.Stopping as stopping
+use Rattle.steps.specs.Stopping.{Stopped}
 use Rattle.calls.specs.Named.{named}
 use Rattle.calls.specs.declared.places.Places.{Places}
 use Rattle.protocol.specs.Calls.{Shown, Unshown, uneven_places, unplaced}
@@ -41,10 +41,10 @@ module _ (pile : List Atom) (rule : Rule) (place : ℕ) (b : Binding) (f : Fires
       λ i t e. own.least c (free c) least.fits i t (back i t e)
 
 -- where a use is refused the rule may not be used
-pub not_fired_breaks : (pile : List Atom) (rule : Rule) (place : ℕ) (e : Refusal) → NotFired pile rule place e → (b : Binding) → Fires pile rule place b → ⊥
-not_fired_breaks pile rule place e (judged.past is none) b f = none_some (sym none ∙ f.there)
-not_fired_breaks pile rule place e (judged.unfit k g a is there never) b f = never b (free b) (guard_fits pile rule place b f k g a there)
-not_fired_breaks pile rule place e (judged.missing k g a c i is there least first) b f =
+pub not_fired_breaks : (pile : List Atom) (rule : Rule) (place : ℕ) (e : Refusal) → Stopped pile rule place e → (b : Binding) → Fires pile rule place b → ⊥
+not_fired_breaks pile rule place e (stopping.past is none) b f = none_some (sym none ∙ f.there)
+not_fired_breaks pile rule place e (stopping.unfit k g a is there never) b f = never b (free b) (guard_fits pile rule place b f k g a there)
+not_fired_breaks pile rule place e (stopping.missing k g a c i is there least first) b f =
     let p = first.0.0 in
     first.0.2 (holds_more (On pile) b c p (guard_binds pile rule place b f k g a c there least) (every_nth (Holds (On pile) b) rule.body i p f.matches.1 first.0.1))
 

@@ -12,7 +12,8 @@ use Rattle.declarations.specs.Checked.{Taken as TakenAs, AtomRefused}
 use Rattle.matching.specs.Places.{NotPlaced}
 use Rattle.book.specs.Theory.{predicates_of, rules_of, constraints_of, queries_of}
 use Rattle.chase.specs.Firing.{Fires}
-use Rattle.steps.specs.Judged.{Bears, NotFired}
+use Rattle.steps.specs.Judged.{Bears}
+use Rattle.steps.specs.Stopping.{Stopped}
 use Rattle.chase.specs.Unfit.{FirstUnfit}
 use Rattle.chase.specs.Refuting.{Refutes, NotRefuted}
 use Rattle.calls.specs.Named.{named}
@@ -83,7 +84,7 @@ pub data NotStepped (s : State) (n k place : ℕ) (e : Refusal) : Type 0 where
   -- 11 (number): there is no such rule
   no_rule : (q : ℕ) → Is e 11 k 0 → OwnDerivation s n q → numbered (rules_of s.book) k ≡ None → NotStepped s n k place e
   -- 12, 13, 14: the rule may not be used at the place
-  not_fired : (q : ℕ) (rule : Rule) → OwnDerivation s n q → numbered (rules_of s.book) k ≡ Some rule → NotFired s.pile rule place e → NotStepped s n k place e
+  not_fired : (q : ℕ) (rule : Rule) → OwnDerivation s n q → numbered (rules_of s.book) k ≡ Some rule → Stopped s.pile rule place e → NotStepped s n k place e
   -- 15: the head is new, and the overlay is full
   overfull : (q : ℕ) (a : Atom) (m : ℕ) → Is e 15 0 0 → OwnDerivation s n q → Yields s k place a m → (On s.pile a → ⊥) → Full s → NotStepped s n k place e
 

@@ -1,6 +1,6 @@
 //! Tests of the flat shelf.
 use crate::made::{at, atom, fill, free, has, lacks, len, none, put};
-use flat::flat::FlatShelf;
+use flat_shelf::flat::FlatShelf;
 use shelves::placed::Placed;
 use shelves::record::Record;
 use shelves::stock::{Shelf, Stock};

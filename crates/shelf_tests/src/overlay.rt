@@ -1,6 +1,6 @@
 //! Tests of the overlay.
 use crate::made::{at, atom, fill, free, has, lacks, len, none, put};
-use flat::flat::FlatShelf;
+use flat_shelf::flat::FlatShelf;
 use overlays::overlay::{NotEmpty, Overlay};
 use piles::uses::ensure;
 use shelves::placed::Placed;

@@ -2,7 +2,7 @@
 use calls::answer::Verdict;
 use calls::places::Places;
 use checker::checker::Checker;
-use flat::flat::FlatShelf;
+use flat_shelf::flat::FlatShelf;
 use shelves::record::Record;
 use std::test::Fail;
 use trials::raw::{k, one, two};

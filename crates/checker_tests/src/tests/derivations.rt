@@ -1,7 +1,7 @@
 //! Derivations: steps and the nulls that they issue.
 use calls::answer::Verdict;
 use checker::checker::Checker;
-use flat::flat::FlatShelf;
+use flat_shelf::flat::FlatShelf;
 use shelves::record::Record;
 use shelves::stock::Shelf;
 use std::test::Fail;

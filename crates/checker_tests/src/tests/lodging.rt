@@ -1,7 +1,7 @@
 //! Lodging and opening.
 use calls::answer::Check;
 use checker::checker::Checker;
-use flat::flat::FlatShelf;
+use flat_shelf::flat::FlatShelf;
 use reading::raw::RawAtom;
 use shelves::record::Record;
 use shelves::stock::Shelf;

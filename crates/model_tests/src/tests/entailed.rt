@@ -2,7 +2,7 @@
 use crate::tests::{ADA, database, personnel};
 use calls::answer::Verdict;
 use checker::checker::Checker;
-use flat::flat::FlatShelf;
+use flat_shelf::flat::FlatShelf;
 use shelves::record::Record;
 use std::test::Fail;
 use trials::raw::one;

@@ -2,7 +2,7 @@
 use crate::tests::{ADA, BILL, FINANCE, JO, TOM, TOYS, personnel, six_facts};
 use calls::answer::Verdict;
 use checker::checker::Checker;
-use flat::flat::FlatShelf;
+use flat_shelf::flat::FlatShelf;
 use shelves::record::Record;
 use shelves::stock::Shelf;
 use std::test::Fail;

@@ -1,7 +1,7 @@
 //! What a refused call leaves, and the end of a checker.
 use calls::answer::Check;
 use checker::checker::Checker;
-use flat::flat::FlatShelf;
+use flat_shelf::flat::FlatShelf;
 use shelves::record::Record;
 use shelves::stock::{Shelf, Stock};
 use std::test::Fail;

@@ -3,7 +3,7 @@ use calls::answer::{Check, Verdict};
 use calls::places::Places;
 use checker::checker::Checker;
 use checker::slip::Returned;
-use flat::flat::FlatShelf;
+use flat_shelf::flat::FlatShelf;
 use shelves::record::Record;
 use shelves::stock::Shelf;
 use std::alloc::Global;

@@ -1,7 +1,7 @@
 //! The same checks on every shelf.
 use calls::answer::Verdict;
 use checker::checker::Checker;
-use flat::flat::FlatShelf;
+use flat_shelf::flat::FlatShelf;
 use overlays::overlay::Overlay;
 use shelves::record::Record;
 use shelves::stock::{Shelf, Stock};

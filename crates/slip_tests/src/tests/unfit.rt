@@ -1,7 +1,7 @@
 //! Shelves with atoms that are no facts of the book, or that repeat.
 use atoms::atom::{Atom, GroundAtom};
 use checker::checker::Checker;
-use flat::flat::FlatShelf;
+use flat_shelf::flat::FlatShelf;
 use short_rows::row::Row;
 use shelves::record::Record;
 use shelves::stock::Shelf;

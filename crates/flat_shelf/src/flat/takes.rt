@@ -1,7 +1,7 @@
 //! What the flat shelf answers and takes in.
 ghost use Rattle.std.specs.Prelude.{◌≡◌, [], ◌∷◌, ◌++◌, ◌+◌, ◌<◌, min, length, set};
 ghost use Rattle.shelves.specs.Puts.{Puts};
-ghost use Rattle.flat.specs.Flat.{written, rows, room, rows_short, counted};
+ghost use Rattle.flat_shelf.specs.Flat.{written, rows, room, rows_short, counted};
 ghost use Rattle.shelves.specs.declared.placed.Placed.TheVariants.{Full};
 
 use crate::flat::FlatShelf;

@@ -1,9 +1,9 @@
 use mathlib.Core.Path.{◌≡◌, sym, ◌∙◌}
 use native.Mathlib.Omega.{arith}
-use Rattle.flat.specs.Flat.{counted}
+use Rattle.flat_shelf.specs.Flat.{counted}
 use Rattle.shelves.specs.Rows.{atom_of}
 use Rattle.shelves.proofs.Fronts.{front_length}
-use Rattle.flat.proofs.flat.FlatShelf.held.Goals as goal
+use Rattle.flat_shelf.proofs.flat.FlatShelf.held.Goals as goal
 
 pub returns : goal.returns
 returns c =

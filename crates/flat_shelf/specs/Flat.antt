@@ -8,7 +8,7 @@ use Rattle.shelves.specs.Rows.{front}
 use Rattle.shelves.specs.declared.record.Record.{Record}
 use Rattle.shelves.specs.declared.placed.Placed.{Placed}
 use Rattle.shelves.specs.declared.placed.Placed.TheVariants.{Already, Full, At}
-use Rattle.flat.specs.declared.flat.FlatShelf.{FlatShelf}
+use Rattle.flat_shelf.specs.declared.flat.FlatShelf.{FlatShelf}
 
 -- how many records count
 abbrev pub counted : FlatShelf → ℕ

@@ -5,7 +5,7 @@ use Prim.Native.Nat.{◌<◌, ◌+◌, min}
 use lib.ListN.{length, set, length-set}
 use Rattle.shelves.specs.Rows.{front, atom_of}
 use Rattle.shelves.proofs.Fronts.{front_push}
-use Rattle.flat.proofs.flat.FlatShelf.push.Goals as goal
+use Rattle.flat_shelf.proofs.flat.FlatShelf.push.Goals as goal
 
 pub returns : goal.returns
 returns c =
