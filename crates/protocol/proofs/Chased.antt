@@ -8,6 +8,7 @@ use Rattle.chase.specs.Chase as chase
 use Rattle.chase.specs.Chase.{start, step, fresh, put_head, is_full, stands, already}
 use Rattle.chase.specs.Law.{Used}
 use Rattle.chase.proofs.Laws.{steps_exact}
+use Rattle.chase.proofs.Numbers.{numbered_same}
 use Rattle.chase.proofs.Piles.{stands_on, on_stands}
 use Rattle.refusals.specs.declared.refusal.Refusal.{Refusal}
 use Rattle.book.specs.Theory.{rules_of, queries_of}
@@ -149,7 +150,7 @@ standing book number facts es s met q before inside e w =
 -- every use of rule k at the place gives the same head, so where one stands on the pile each does
 module _ (rules : List Rule) (s : chase.State) (k place : ℕ) where
   abbrev used : (a : Atom) (n : ℕ) → Gives rules s k place a n → Used rules s k place
-  used a n g = record { rule = g.rule; named = g.named_rule; by = g.by; fires = g.fires }
+  used a n g = record { rule = g.rule; named = numbered_same rules k ∙ g.named_rule; by = g.by; fires = g.fires }
 
   put : (a : Atom) (n : ℕ) → Gives rules s k place a n → step rules s k place ≡ put_head s a n (stands s.pile a) (is_full s)
   put a n g =

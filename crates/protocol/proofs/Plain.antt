@@ -9,6 +9,7 @@ use Rattle.chase.specs.Chase.{put_head, is_full, moved, step, fresh}
 use Rattle.chase.specs.Firing.{Fires}
 use Rattle.chase.specs.Law.{Used, is_broken}
 use Rattle.chase.proofs.Laws.{steps_exact}
+use Rattle.chase.proofs.Numbers.{numbered_same}
 use Rattle.chase.proofs.Piles.{stands_on, on_stands}
 use Rattle.semantics.specs.Computed.{atom_of}
 use Rattle.refusals.specs.declared.refusal.Refusal.{Refusal}
@@ -44,7 +45,7 @@ module _ (rules : List Rule) (s : chase.State) (k p : ℕ) where
   -- what the rule gives is what the computed step tries to put
   given : (a : Atom) (n : ℕ) → Gives rules s k p a n → step rules s k p ≡ put_head s a n (chase.stands s.pile a) (is_full s)
   given a n g =
-      let used : Used rules s k p = record { rule = g.rule; named = g.named_rule; by = g.by; fires = g.fires } in
+      let used : Used rules s k p = record { rule = g.rule; named = numbered_same rules k ∙ g.named_rule; by = g.by; fires = g.fires } in
       (steps_exact rules s k p).0 used ∙ (λ i. put_head s (sym g.bears.0 i) (sym g.bears.1 i) (chase.stands s.pile (sym g.bears.0 i)) (is_full s))
 
   idle : (m : chase.Move) → is_broken m ≡ true → moved s m ≡ s
@@ -60,7 +61,7 @@ module _ (rules : List Rule) (s : chase.State) (k p : ℕ) where
       go true e = refl
       go false e =
           let u = (steps_exact rules s k p).1 e in
-          absurd (none _ _ (record { rule = u.rule; named_rule = u.named; by = u.by; fires = u.fires; bears = (refl, refl) }))
+          absurd (none _ _ (record { rule = u.rule; named_rule = sym (numbered_same rules k) ∙ u.named; by = u.by; fires = u.fires; bears = (refl, refl) }))
 
   put_is : (a : Atom) (n : ℕ) (v w : Bool) → Gives rules s k p a n → chase.stands s.pile a ≡ v → is_full s ≡ w → step rules s k p ≡ put_head s a n v w
   put_is a n v w g e f = given a n g ∙ (λ i. put_head s a n (e i) (f i))

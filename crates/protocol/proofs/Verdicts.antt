@@ -10,7 +10,8 @@ use Rattle.chase.specs.Chase.{PlainAll, Kept, guard_of, missing, claim, accepted
 use Rattle.chase.specs.Firing.{Fires}
 use Rattle.chase.specs.Satisfying.{Satisfied}
 use Rattle.chase.proofs.Claims.{entailed}
-use Rattle.chase.proofs.Image.{on_match, numbered_every}
+use Rattle.chase.proofs.Image.{on_match}
+use Rattle.chase.proofs.Numbers.{subject_every}
 use Rattle.chase.proofs.Laws.{claims_exact}
 use Rattle.chase.proofs.Piles.{every_map, guard_exact}
 use Rattle.chase.proofs.Refutes.{refutes}
@@ -73,18 +74,18 @@ module _ (m : Candidate) (book : Book) (number : ℕ) (facts : List Atom) (s t :
   claim_kept : (n : ℕ) (p : Places) (v : Verdict) → Claimed s n p (Ok v) t → Truth m book facts v
   claim_kept n p v h =
       let w = worth_of s (check.Derivation h.0) h.2.0 keeps.worth in
-      let plain = numbered_every PlainAll (queries_of s.book) h.0 h.1 (plain_queries s.book) h.3 in
+      let plain = subject_every PlainAll (queries_of s.book) h.0 h.1 (plain_queries s.book) h.3 in
       truth_moved m book number facts s v keeps
       (subst (Truth m s.book s.facts) (sym h.5) (λ model. (h.1, h.3, shown_match m s h.0 w h.1 p plain h.4 model)))
 
   clash_kept : (n c : ℕ) (p : Places) (v : Verdict) → Clashed s n c p (Ok v) t → Truth m book facts v
   clash_kept n c p v h =
       let w = worth_of s (check.Derivation h.0) h.2.0 keeps.worth in
-      let plain = numbered_every PlainAll (constraints_of s.book) c h.1 (plain_constraints s.book) h.3 in
+      let plain = subject_every PlainAll (constraints_of s.book) c h.1 (plain_constraints s.book) h.3 in
       truth_moved m book number facts s v keeps
       (subst (Truth m s.book s.facts) (sym h.5) (λ model.
       let found = shown_match m s h.0 w h.1 p plain h.4 model in
-      ((h.1, h.3, found), λ obeys. numbered_every (Obeys m) (constraints_of s.book) c h.1 obeys h.3 found)))
+      ((h.1, h.3, found), λ obeys. subject_every (Obeys m) (constraints_of s.book) c h.1 obeys h.3 found)))
 
 -- a claim that was accepted is true of the facts held
 pub claim_true : (m : Candidate) (book : Book) (number : ℕ) (start : List Atom) (es : List Event) (s t : State) (n : ℕ) (p : Places) (v : Verdict) → Met book number start es s → Claimed s n p (Ok v) t → Truth m book (held start es) v
