@@ -21,7 +21,9 @@ use Rattle.matching.proofs.Rounds.{nth_map}
 use Rattle.rules.specs.Meaning.{rule_meant}
 use Rattle.rules.specs.declared.rule.Rule.{Rule}
 use Rattle.book.specs.Theory.{rules_of}
-use Rattle.steps.specs.Judged.{Judged, NoHead, stopped, no_null}
+use Rattle.steps.specs.Judged as judged
+use Rattle.steps.specs.Judged.{Judged}
+use Rattle.steps.specs.Stopping as stopping
 use Rattle.steps.specs.declared.step.Head.{Head}
 use Rattle.protocol.specs.States.{State, OwnDerivation, OwnModel}
 use Rattle.protocol.specs.Calls.{Idle, unfit, not_fired, unfit_atom}
@@ -112,8 +114,10 @@ step_judged s n q k p rule (Ok h) own few named (b, fires, bears) =
     let most = fresh_few b s.nulls (rule_meant rule).head.slots in
     let row = row_four rule.head.terms in
     ((q, own), record { rule = rule_meant rule; named_rule = named; by = b; fires = fires; bears = bears }, omega (arith, most, row, bears.1))
-step_judged s n q k p rule (Err e) own few named (stopped h) = not_fired q (rule_meant rule) own named h
-step_judged s n q k p rule (Err e) own few named (no_null b is fires over) =
+step_judged s n q k p rule (Err e) own few named (judged.past is none) = not_fired q (rule_meant rule) own named (stopping.past is none)
+step_judged s n q k p rule (Err e) own few named (judged.unfit i g a is there never) = not_fired q (rule_meant rule) own named (stopping.unfit i g a is there never)
+step_judged s n q k p rule (Err e) own few named (judged.missing j g a b i is there least first) = not_fired q (rule_meant rule) own named (stopping.missing j g a b i is there least first)
+step_judged s n q k p rule (Err e) own few named (judged.no_null b is fires over) =
     let most = fresh_few b s.nulls (rule_meant rule).head.slots in
     let row = row_four rule.head.terms in
     absurd (omega (arith, most, row, over, few))
