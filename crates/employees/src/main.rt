@@ -1,15 +1,12 @@
-//! The employee example: its rule book, its database on a flat shelf, what book, shelf and queries answer, and checks.
+//! The employee example: its rule book, its database on a flat shelf, and what book, shelf and queries answer.
 #![tactic(auto)]
 
-mod calls_made;
-mod checks;
 mod personnel;
 mod show;
 
 use anyhow::anyhow;
 use book::book::Book;
 use book::draft::Draft;
-use checks::check_all;
 use flat_shelf::flat::FlatShelf;
 use personnel::{facts, unfit_entries, unfit_facts, write_down};
 use shelves::record::Record;
@@ -37,8 +34,7 @@ fn run(rt: &HostRuntime) -> anyhow::Result<()> {
     for number in 1..book.queries() + 1 {
         show_query(rt, &book, &shelf, number)?;
     }
-    println!(rt; "checks")?;
-    check_all(rt, book)
+    Ok(())
 }
 
 /// Puts the facts on the shelf, one of them twice, and tries some that are refused.

@@ -6,21 +6,17 @@ use book::draft::Draft;
 use reading::raw::{RawAtom, RawTerm};
 use refusals::refusal::Refusal;
 
-pub(crate) const V1: RawTerm = RawTerm::Variable(1);
+const V1: RawTerm = RawTerm::Variable(1);
 
 const V2: RawTerm = RawTerm::Variable(2);
 
 const V3: RawTerm = RawTerm::Variable(3);
 
-pub(crate) const JO: RawTerm = RawTerm::Constant(11);
+const JO: RawTerm = RawTerm::Constant(11);
 
-pub(crate) const ADA: RawTerm = RawTerm::Constant(12);
+const ADA: RawTerm = RawTerm::Constant(12);
 
-pub(crate) const BILL: RawTerm = RawTerm::Constant(13);
-
-pub(crate) const FINANCE: RawTerm = RawTerm::Constant(21);
-
-pub(crate) const TOYS: RawTerm = RawTerm::Constant(22);
+const FINANCE: RawTerm = RawTerm::Constant(21);
 
 /// Writes the whole book down.
 pub(crate) fn write_down(draft: &mut Draft) -> Result<(), Refusal> {
@@ -28,7 +24,6 @@ pub(crate) fn write_down(draft: &mut Draft) -> Result<(), Refusal> {
         draft.declare(arity)?;
     }
     write_rules(draft)?;
-    draft.constraint(&[RawAtom::new(2, &[V1]), RawAtom::new(5, &[V1, TOYS])])?;
     write_queries(draft)
 }
 
@@ -52,7 +47,6 @@ fn write_queries(draft: &mut Draft) -> Result<(), Refusal> {
     draft.query(&[RawAtom::new(2, &[V1]), RawAtom::new(3, &[V1, FINANCE])])?;
     draft.query(&[RawAtom::new(1, &[JO])])?;
     draft.query(&[RawAtom::new(3, &[ADA, FINANCE])])?;
-    draft.query(&[RawAtom::new(3, &[ADA, V1])])?;
     Ok(())
 }
 

@@ -1,5 +1,5 @@
 use Rattle.std.proofs.Common.{vec_len}
-use Rattle.employees.proofs.checks.strike_all.Given as goal
+use Rattle.employees_checks.proofs.checks.strike_all.Given as goal
 
 abbrev pub decreases-loop-slot : goal.decreases-loop-slot
 decreases-loop-slot g l = vec_len l.pool
