@@ -1,5 +1,5 @@
 -- Tables as lists.
-use Rattle.std.specs.Prelude.{◌≡◌, ℕ, suc, List, [], ◌∷◌, ◌++◌, length, Ok, Err, vec_items, Result}
+use Rattle.std.specs.Prelude.{◌≡◌, ℕ, List, length, Ok, Err, vec_items, Result}
 use Rattle.refusals.specs.Refusals.{Is}
 use Rattle.refusals.specs.declared.refusal.Refusal.{Refusal}
 use Rattle.declarations.specs.Arities.{Added}

@@ -1,19 +1,14 @@
 -- An accepted claim is a match in the pile, and so in every model.
-use Rattle.std.proofs.Common.{◌≡◌, ℕ, zero, suc, ◌+◌, ◌<◌, ◌≤◌, Bool, true, false, cond, ◌&&◌, ◌||◌, eqb, ◌⊎◌, List, [], ◌∷◌, ◌++◌, map, length, is_some, Some, None, Option, unwrap_or, sym, refl, ap, ◌∙◌, subst, inl, inr}
-use mathlib.Core.Bool.{or-true, or-false, or_assoc}
-use mathlib.Core.Logic.{∥∥₁_elim, ∥∥₁_map, ∥∥₁_prop}
-use Rattle.std.specs.Option.{option_map}
+use Rattle.std.proofs.Common.{◌≡◌, ℕ, suc, Bool, true, false, cond, ◌||◌, eqb, List, [], ◌∷◌, length, is_some, Some, None, Option, sym, refl, ap, ◌∙◌, subst}
+use mathlib.Core.Bool.{or-false, or_assoc}
+use mathlib.Core.Logic.{∥∥₁_map}
 use Rattle.std.specs.List.{slice_get, AllByRecursion}
-use Rattle.std.specs.Str.{bytes_eq as same_text}
-use Rattle.std.specs.Map.{update}
-use Rattle.semantics.specs.Subject.{Slot, con, var, Pattern, Atom, Binding, Rule, Candidate, Gives, GivesAll, Fits, Holds, Match, HasMatch, Follows, Model, Extends, Exactly, is_var, in_slots, in_patterns, Obeys}
-use Rattle.chase.specs.Chase.{Plain, PlainAll, PlainRule, IsFact}
+use Rattle.semantics.specs.Subject.{Pattern, Atom, Binding, Candidate, Holds, Match, Extends, in_slots, in_patterns}
 use Rattle.semantics.specs.Computed.{fit, nothing}
 use Rattle.semantics.specs.Subject.{On}
 use Rattle.chase.specs.Chase.{run, start, Claim, accepted, refused, claim_fit, claim_place, goes_on, claim_from, claim}
 use Rattle.chase.specs.Theorems.{EntailedSound, InconsistentSound}
-use Rattle.semantics.proofs.Fitting.{some_is, none_some, Grown, fit_sound, all_more}
-use Rattle.chase.proofs.Piles.{every_map}
+use Rattle.semantics.proofs.Fitting.{none_some, Grown, fit_sound, all_more}
 use Rattle.chase.proofs.Image.{sent_match, universal, through}
 
 abbrev is_accepted : Claim → Bool

@@ -1,9 +1,9 @@
 -- The edges hold.
-use Rattle.std.proofs.Common.{◌≡◌, ℕ, eqb, List, [], ◌∷◌, Some, None, Option, sym, refl, ◌∙◌, arith}
+use Rattle.std.proofs.Common.{◌≡◌, ℕ, eqb, List, [], ◌∷◌, Some, sym, refl, ◌∙◌, arith}
 use mathlib.Core.Logic.{∥∥₁_elim}
 use Rattle.std.specs.List.{AllByRecursion}
 use Rattle.std.specs.Map.{update}
-use Rattle.semantics.specs.Subject.{Pattern, Rule, Match, Binding, Obeys}
+use Rattle.semantics.specs.Subject.{Pattern, Rule, Obeys}
 use Rattle.semantics.specs.Computed.{nothing}
 use Rattle.chase.specs.Chase.{Kept}
 use Rattle.semantics.specs.Subject.{On}

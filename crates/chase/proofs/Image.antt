@@ -1,20 +1,18 @@
 -- The chase maps into every model.
-use Rattle.std.proofs.Common.{◌≡◌, ℕ, zero, suc, ◌+◌, ◌-◌, ◌<◌, ◌≤◌, Bool, true, false, cond, ◌&&◌, ◌||◌, eqb, ◌⊎◌, List, [], ◌∷◌, ◌++◌, map, is_some, Some, None, Option, unwrap_or, sym, refl, ap, ◌∙◌, subst, inl, inr, arith}
+use Rattle.std.proofs.Common.{◌≡◌, ℕ, zero, suc, ◌+◌, ◌<◌, ◌≤◌, Bool, true, false, cond, ◌||◌, eqb, List, [], ◌∷◌, ◌++◌, map, is_some, Some, None, Option, unwrap_or, sym, refl, ap, ◌∙◌, subst, inl, inr, arith}
 use mathlib.Core.Bool.{or-true, or-false, or_assoc}
 use mathlib.Core.Logic.{∥∥₁_elim, ∥∥₁_map, ∥∥₁_prop}
 use Rattle.std.specs.Option.{option_map}
 use Rattle.std.specs.List.{slice_get, AllByRecursion}
-use Rattle.std.specs.Str.{bytes_eq as same_text}
-use Rattle.std.specs.Map.{update}
 use Rattle.std.proofs.slice.Lists.{all_by_recursion_push}
-use Rattle.std.proofs.lemmas.Bool.{eqb-true, eqb-false, eq-eqb, ne_eqb, both_ways, or_cases, or_left, and_parts, and_from, cases_Bool}
-use Rattle.semantics.specs.Subject.{Slot, con, var, Pattern, Atom, Binding, Rule, Candidate, Gives, GivesAll, Fits, Holds, Match, HasMatch, Follows, Model, Extends, Exactly, is_var, in_slots, in_patterns}
+use Rattle.std.proofs.lemmas.Bool.{eqb-true, eq-eqb, ne_eqb, both_ways, or_cases, or_left}
+use Rattle.semantics.specs.Subject.{Slot, con, var, Pattern, Atom, Binding, Rule, Candidate, Gives, GivesAll, Holds, Match, Follows, Model, Exactly, is_var, in_slots, in_patterns}
 use Rattle.chase.specs.Chase.{numbered, Plain, PlainAll, PlainRule, IsFact}
-use Rattle.semantics.specs.Computed.{and_then, fit, terms_of, atom_of, nothing}
-use Rattle.chase.specs.Chase.{stands, missing, guard_of, fresh, fresh_slot, fresh_var, State, Move, broken, already, overfull, adds, put_head, is_full, with_head, after_side, after_fit, after_place, after_guard, after_rule, step, moved, run, start}
+use Rattle.semantics.specs.Computed.{fit, terms_of, atom_of, nothing}
+use Rattle.chase.specs.Chase.{stands, missing, guard_of, fresh, fresh_slot, fresh_var, State, adds, put_head, is_full, after_side, after_fit, after_place, after_guard, after_rule, step, moved, run, start}
 use Rattle.semantics.specs.Subject.{On}
 use Rattle.chase.specs.Theorems.{sent, Image}
-use Rattle.semantics.proofs.Fitting.{some_is, none_some, then_some, same_bool, Grown, fit_sound, gives_terms, terms_given, put, put_here, put_keeps, put_exact, put_cases, held_exact}
+use Rattle.semantics.proofs.Fitting.{some_is, none_some, fit_sound, gives_terms, terms_given, put, put_exact, put_cases, held_exact}
 use Rattle.chase.proofs.Piles.{every_nth, every_map, every_both, missing_none, guard_exact}
 
 abbrev pub Fixed : (ℕ → ℕ) → Type 0

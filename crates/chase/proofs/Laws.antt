@@ -1,18 +1,18 @@
 -- The step follows the relation.
-use Rattle.std.proofs.Common.{◌≡◌, ℕ, suc, Bool, true, false, cond, eqb, List, [], ◌∷◌, length, is_some, Some, None, Option, sym, refl, ap, ◌∙◌, subst}
+use Rattle.std.proofs.Common.{◌≡◌, ℕ, suc, Bool, true, false, cond, eqb, List, [], ◌∷◌, length, Some, None, Option, sym, refl, ap, ◌∙◌, subst}
 use mathlib.Core.Path.{fun_ext}
-use Rattle.std.specs.List.{slice_get, AllByRecursion}
+use Rattle.std.specs.List.{slice_get}
 use Rattle.std.proofs.lemmas.Bool.{both_ways, eq-eqb}
 use Rattle.semantics.specs.Subject.{Pattern, Atom, Binding, Rule, Fits, Holds, Match, Extends, Exactly, Guards}
 use Rattle.semantics.specs.Subject.{On}
-use Rattle.chase.specs.Chase.{numbered, State, Move, guard_of, fresh, with_head, step, missing, after_side, after_fit, after_place, after_guard, after_rule, Claim, accepted, refused, claim, claim_from, claim_place, claim_fit, goes_on}
+use Rattle.chase.specs.Chase.{numbered, State, guard_of, fresh, with_head, step, missing, after_side, after_fit, after_place, after_guard, after_rule, accepted, refused, claim_from, claim_place, claim_fit, goes_on}
 use Rattle.semantics.specs.Computed.{nothing, fit, atom_of, guard, and_then}
 use Rattle.chase.specs.Firing.{Fires}
 use Rattle.chase.specs.Law.{Used, is_broken, StepExact, ClaimExact}
 use Rattle.semantics.specs.Subject.{AtPlaces}
 use Rattle.chase.proofs.Claims.{refused_not, accepted_is, on_accepted}
 use Rattle.semantics.proofs.Guarding.{guards, guard_only}
-use Rattle.semantics.proofs.Fitting.{then_some, some_is, none_some, fit_sound, fit_complete, gives_terms, Grown, all_more}
+use Rattle.semantics.proofs.Fitting.{then_some, some_is, none_some, fit_sound, fit_complete, gives_terms, all_more}
 use Rattle.chase.proofs.Piles.{guard_exact, none_missing, every_map}
 use Rattle.chase.proofs.Image.{on_match}
 use Rattle.chase.proofs.Refutes.{same_part}

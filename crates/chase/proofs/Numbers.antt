@@ -1,5 +1,5 @@
 -- What stands under a number is the same by cases and by subtraction.
-use Rattle.std.proofs.Common.{◌≡◌, ℕ, ◌-◌, suc, zero, cond, eqb, List, None, Some, refl, ap, sym, ◌∙◌, arith}
+use Rattle.std.proofs.Common.{◌≡◌, ℕ, ◌-◌, suc, zero, cond, List, None, Some, refl, ap, sym, ◌∙◌, arith}
 use Rattle.std.proofs.Math.Dec.{eqb-suc-zero}
 use Rattle.std.specs.List.{slice_get, AllByRecursion}
 use Rattle.semantics.specs.Subject as subject

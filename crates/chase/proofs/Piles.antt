@@ -1,18 +1,17 @@
 -- What stands on a pile, what is missing there, and the guard.
-use Rattle.std.proofs.Common.{◌≡◌, ℕ, zero, suc, ◌+◌, ◌<◌, ◌≤◌, Bool, true, false, cond, ◌&&◌, ◌||◌, eqb, ◌⊎◌, List, [], ◌∷◌, ◌++◌, map, is_some, Some, None, Option, unwrap_or, sym, refl, ap, ◌∙◌, subst, inl, inr, arith}
-use mathlib.Core.Bool.{or-true, or-false, or_assoc}
+use Rattle.std.proofs.Common.{◌≡◌, ℕ, zero, suc, Bool, true, false, cond, ◌||◌, eqb, List, [], ◌∷◌, Some, None, Option, sym, refl, ap, ◌∙◌, subst, inl, inr}
+use mathlib.Core.Bool.{or-true}
 use Rattle.std.specs.Cmp.Lexicographic.{bytes_decides}
 use Rattle.std.specs.Option.{option_map}
 use Rattle.std.specs.List.{slice_get, AllByRecursion}
 use Rattle.std.specs.Str.{bytes_eq as same_text}
-use Rattle.std.specs.Map.{update}
-use Rattle.std.proofs.lemmas.Bool.{eqb-true, eqb-false, eq-eqb, ne_eqb, both_ways, or_cases, and_parts, and_from, cases_Bool}
-use Rattle.semantics.specs.Subject.{Slot, con, var, Pattern, Atom, Binding, Rule, Gives, GivesAll, Fits, Extends, Exactly, is_var, in_slots, in_patterns}
+use Rattle.std.proofs.lemmas.Bool.{eqb-true, eq-eqb, both_ways, or_cases, and_parts, and_from}
+use Rattle.semantics.specs.Subject.{Slot, con, var, Pattern, Atom, Binding, Rule, Exactly, in_slots, in_patterns}
 use Rattle.semantics.specs.Computed.{covers, covers_all, guard, guard_from}
-use Rattle.semantics.specs.Computed.{and_then, fit, terms_of, atom_of, nothing}
+use Rattle.semantics.specs.Computed.{fit, atom_of, nothing}
 use Rattle.chase.specs.Chase.{same_atom, stands, missing, guard_of}
 use Rattle.semantics.specs.Subject.{On}
-use Rattle.semantics.proofs.Fitting.{some_is, none_some, then_some, same_bool, Grown, fit_sound}
+use Rattle.semantics.proofs.Fitting.{some_is, none_some, then_some, same_bool, fit_sound}
 
 pub every_nth : {A : Type 0} (P : A → Type 0) (xs : List A) (k : ℕ) (x : A) → AllByRecursion P xs → slice_get xs k ≡ Some x → P x
 every_nth P [] k x h e = absurd (none_some e)

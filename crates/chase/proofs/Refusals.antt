@@ -1,9 +1,9 @@
 -- Refute passes exactly the piles that are counter-models.
-use Rattle.std.proofs.Common.{◌≡◌, ℕ, zero, suc, ◌≤◌, Bool, true, false, cond, leb, List, [], ◌∷◌, length, is_some, Some, None, Option, sym, refl, ap, ◌∙◌, subst}
+use Rattle.std.proofs.Common.{◌≡◌, ℕ, zero, suc, ◌≤◌, Bool, true, false, cond, leb, List, [], ◌∷◌, length, Some, None, Option, sym, refl, ap, ◌∙◌}
 use Rattle.std.specs.Option.{option_map, option_or}
 use Rattle.std.specs.List.{slice_get, AllByRecursion}
 use Rattle.std.proofs.lemmas.Bool.{both_ways, le-leb}
-use Rattle.semantics.specs.Subject.{Pattern, Atom, Binding, Rule, Obeys, HasMatch}
+use Rattle.semantics.specs.Subject.{Pattern, Atom, Binding, Rule, Obeys}
 use Rattle.semantics.specs.Subject.{On}
 use Rattle.semantics.specs.Computed.{fit, nothing}
 use Rattle.chase.specs.Chase.{missing, found, guard_of, Kept, Refuted}

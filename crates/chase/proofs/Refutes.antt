@@ -1,22 +1,22 @@
 -- A pile that passes the test of refute is a model.
-use Rattle.std.proofs.Common.{◌≡◌, ℕ, zero, suc, ◌+◌, ◌<◌, ◌≤◌, Bool, true, false, cond, ◌&&◌, ◌||◌, eqb, ◌⊎◌, List, [], ◌∷◌, ◌++◌, map, is_some, Some, None, Option, unwrap_or, sym, refl, ap, ◌∙◌, subst, inl, inr}
-use mathlib.Core.Bool.{Bool-set, or-true, or-false, or_assoc, or_comm}
-use mathlib.Core.Logic.{∥∥₁_elim, ∥∥₁_map, ∥∥₁_prop}
+use Rattle.std.proofs.Common.{◌≡◌, ℕ, zero, suc, Bool, true, false, cond, ◌||◌, List, [], ◌∷◌, ◌++◌, is_some, Some, None, Option, sym, refl, ap, ◌∙◌, subst}
+use mathlib.Core.Bool.{Bool-set, or-false, or_comm}
+use mathlib.Core.Logic.{∥∥₁_elim}
 use Rattle.std.specs.Option.{option_map}
 use Rattle.std.specs.List.{slice_get, AllByRecursion}
 use Rattle.std.proofs.lemmas.Bool.{both_ways}
-use Rattle.semantics.specs.Subject.{Slot, con, var, Pattern, Atom, Binding, Rule, Candidate, Gives, GivesAll, Fits, Holds, Match, HasMatch, Follows, Model, Extends, Exactly, in_slots, in_patterns, Obeys}
+use Rattle.semantics.specs.Subject.{Pattern, Atom, Binding, Rule, Holds, Follows, Extends, Exactly, in_slots, in_patterns, Obeys}
 use Rattle.chase.specs.Chase.{PlainAll}
 use Rattle.semantics.specs.Computed.{guard, guard_from, covers_all}
-use Rattle.semantics.specs.Computed.{and_then, fit, nothing, atom_of, terms_of}
+use Rattle.semantics.specs.Computed.{and_then, nothing, atom_of}
 use Rattle.semantics.specs.Subject.{On}
-use Rattle.chase.specs.Chase.{missing, guard_of, Kept, Refuted}
+use Rattle.chase.specs.Chase.{guard_of, Kept}
 use Rattle.chase.specs.Theorems.{Guarded, RefutedSound, RefutedComplete, VerdictsAgree, ClashesAgree}
-use Rattle.semantics.proofs.Fitting.{some_is, none_some, Grown, fit_sound, fit_complete, gives_terms, all_more}
-use Rattle.chase.proofs.Piles.{every_nth, every_map, every_both, none_missing, Guards, guards, guard_exact}
+use Rattle.semantics.proofs.Fitting.{some_is, none_some, fit_sound, fit_complete, gives_terms, all_more}
+use Rattle.chase.proofs.Piles.{every_nth, every_map, every_both, none_missing, guards, guard_exact}
 use Rattle.chase.proofs.Image.{on_match, numbered_every}
 use Rattle.chase.proofs.Claims.{entailed, holds_more}
-use Rattle.chase.proofs.Searches.{found_sound, found_complete, Found}
+use Rattle.chase.proofs.Searches.{found_sound, found_complete}
 
 -- two bindings of the same variables, one extending the other, are the same
 pub same_part : (b c : Binding) → Extends b c → ((i : ℕ) → is_some (b i) ≡ is_some (c i)) → Extends c b

@@ -1,10 +1,10 @@
 -- The plain chase: a list as pile, a null count, atoms added.
 use Rattle.std.specs.Prelude.{◌≡◌, ℕ, zero, suc, ◌+◌, ◌<◌, Bool, true, false, cond, ◌&&◌, ◌||◌, List, [], ◌∷◌, ◌++◌, length, is_some, Some, None, Option, ◌==◌, nat_eq, nat_le}
-use Rattle.std.specs.Option.{option_map, unwrap_or}
+use Rattle.std.specs.Option.{option_map}
 use Rattle.std.specs.List.{slice_get, AllByRecursion}
 use Rattle.std.specs.Str.{bytes_eq as same_text}
 use Rattle.std.specs.Map.{update}
-use Rattle.semantics.specs.Subject.{On, Slot, con, var, Pattern, Atom, Binding, Rule, Candidate, Obeys}
+use Rattle.semantics.specs.Subject.{On, Slot, con, var, Pattern, Atom, Binding, Rule, Obeys}
 use Rattle.semantics.specs.Computed.{guard, and_then, nothing, fit, atom_of, first_match}
 
 -- constants are below 1,000,000

@@ -1,11 +1,11 @@
 -- The edges of the definitions, in one statement.
-use Rattle.std.specs.Prelude.{◌≡◌, ℕ, List, [], ◌∷◌, Some, None, Option}
+use Rattle.std.specs.Prelude.{◌≡◌, ℕ, List, [], ◌∷◌, Some, None}
 use Rattle.std.specs.List.{AllByRecursion}
 use Rattle.semantics.specs.Subject.{Slot, con, var, Pattern, Atom, Binding, Fits, Rule}
 use Rattle.semantics.specs.Computed.{guard}
 use Rattle.chase.specs.Chase.{State, start, run, step, moved, adds, claim, accepted, refused}
 use Rattle.chase.specs.Refute.{refute}
-use Rattle.chase.specs.Refute as not
+use Rattle.chase.specs.Refute as answer
 
 abbrev pub pat : ℕ → List Slot → Pattern
 pat p ss = record { pred = p; slots = ss }
@@ -28,7 +28,7 @@ pub record Edges : Type 0 where
   pub e5 : step one_rule (moved (start (atom 1 (17 ∷ []) ∷ [])) (step one_rule (start (atom 1 (17 ∷ []) ∷ [])) 1 0)) 1 0 ≡ adds (atom 2 (17 ∷ 1000001 ∷ [])) 2
   pub e6 : (b : Binding) × Fits b (pat 2 (var 1 ∷ var 1 ∷ [])) (atom 2 (17 ∷ 17 ∷ []))
   pub e6_not : (b : Binding) → Fits b (pat 2 (var 1 ∷ var 1 ∷ [])) (atom 2 (17 ∷ 18 ∷ [])) → ⊥
-  pub e7 : (rules : List Rule) (constraints : List (List Pattern)) (q : ℕ) (query : List Pattern) → AllByRecursion SomePatterns constraints → SomePatterns query → refute [] rules constraints q query ≡ not.refuted 0
+  pub e7 : (rules : List Rule) (constraints : List (List Pattern)) (q : ℕ) (query : List Pattern) → AllByRecursion SomePatterns constraints → SomePatterns query → refute [] rules constraints q query ≡ answer.refuted 0
   pub e8 : claim (atom 2 (17 ∷ 1000000 ∷ []) ∷ []) (pat 2 (var 1 ∷ var 1 ∷ []) ∷ []) (0 ∷ []) ≡ refused 13 0 0
 
 -- the worked bundle
@@ -48,5 +48,5 @@ pub record Bundle : Type 0 where
   pub pile : after.pile ≡ atom 1 (17 ∷ []) ∷ atom 2 (17 ∷ 1000000 ∷ []) ∷ atom 3 (1000000 ∷ []) ∷ []
   pub figures : (after.added ≡ 2) × (after.nulls ≡ 1)
   pub entailed : (b : Binding) × (claim after.pile (pat 2 (con 17 ∷ var 1 ∷ []) ∷ pat 3 (var 1 ∷ []) ∷ []) (1 ∷ 2 ∷ []) ≡ accepted b)
-  pub unsatisfied : refute (atom 1 (17 ∷ []) ∷ atom 2 (17 ∷ 17 ∷ []) ∷ []) book clash 2 (pat 4 (var 1 ∷ []) ∷ []) ≡ not.refused 17 2 1
-  pub satisfied : refute (atom 1 (17 ∷ []) ∷ atom 2 (17 ∷ 17 ∷ []) ∷ atom 3 (17 ∷ []) ∷ []) book clash 2 (pat 4 (var 1 ∷ []) ∷ []) ≡ not.refuted 3
+  pub unsatisfied : refute (atom 1 (17 ∷ []) ∷ atom 2 (17 ∷ 17 ∷ []) ∷ []) book clash 2 (pat 4 (var 1 ∷ []) ∷ []) ≡ answer.refused 17 2 1
+  pub satisfied : refute (atom 1 (17 ∷ []) ∷ atom 2 (17 ∷ 17 ∷ []) ∷ atom 3 (17 ∷ []) ∷ []) book clash 2 (pat 4 (var 1 ∷ []) ∷ []) ≡ answer.refuted 3

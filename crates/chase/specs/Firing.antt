@@ -1,7 +1,7 @@
 -- The chase rule, as a relation.
 use Rattle.std.specs.Prelude.{◌≡◌, ℕ, List, Some}
 use Rattle.std.specs.List.{slice_get}
-use Rattle.semantics.specs.Subject.{Pattern, Atom, Binding, Rule, Fits, Match, On, Guards}
+use Rattle.semantics.specs.Subject.{Atom, Binding, Rule, Fits, Match, On, Guards}
 
 -- the rule may be used at the place by b: its guard fits the atom there under b, which is a match of its body in the pile
 pub record Fires (pile : List Atom) (rule : Rule) (place : ℕ) (b : Binding) : Type 0 where

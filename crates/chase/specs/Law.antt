@@ -1,5 +1,5 @@
 -- Step and claim, as computed, follow the relations.
-use Rattle.std.specs.Prelude.{◌≡◌, ℕ, Bool, true, false, List, [], ◌∷◌, Some}
+use Rattle.std.specs.Prelude.{◌≡◌, ℕ, Bool, true, false, List, Some}
 use Rattle.semantics.specs.Subject.{Pattern, Atom, Binding, Rule, AtPlaces}
 use Rattle.chase.specs.Chase.{State, Move, broken, already, overfull, adds, numbered, fresh, with_head, step, claim, accepted}
 use Rattle.chase.specs.Firing.{Fires}

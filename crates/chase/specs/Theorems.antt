@@ -1,12 +1,12 @@
 -- What is proved of the chase and of refutation.
-use Rattle.std.specs.Prelude.{◌≡◌, ℕ, ◌+◌, ◌<◌, Bool, true, false, List, [], ◌∷◌, ◌++◌, map, is_some, Some, None, Option, refl}
+use Rattle.std.specs.Prelude.{◌≡◌, ℕ, ◌<◌, true, List, ◌++◌, map, is_some, Some}
 use Rattle.std.specs.List.{AllByRecursion}
-use Rattle.semantics.specs.Subject.{Slot, con, var, Pattern, Atom, Binding, Rule, Candidate, Obeys, HasMatch, Match, Model}
+use Rattle.semantics.specs.Subject.{Pattern, Atom, Binding, Rule, Candidate, Obeys, HasMatch, Match, Model}
 use Rattle.semantics.specs.Computed.{guard}
 use Rattle.chase.specs.Chase.{PlainRule, PlainAll, IsFact}
-use Rattle.chase.specs.Chase.{State, start, run, claim, accepted, refused, Refuted, found, numbered, guard_of, step, Move, adds}
+use Rattle.chase.specs.Chase.{start, run, claim, accepted, Refuted, found, numbered}
 use Rattle.semantics.specs.Subject.{On}
-use Rattle.semantics.specs.Computed.{nothing, fit}
+use Rattle.semantics.specs.Computed.{nothing}
 
 -- each term of the atom moved by f
 abbrev pub sent : (ℕ → ℕ) → Atom → Atom

@@ -1,9 +1,7 @@
 -- The refusals of an atom, from what the code has found.
-use Rattle.std.proofs.Common.{◌≡◌, ℕ, suc, ◌+◌, ◌<◌, ◌≤◌, List, [], ◌∷◌, ◌++◌, length, get_or, take, set, IsErrAnd, Some, None, Ok, Err, Result, sym, refl, ap, ◌∙◌, subst, arith}
-use Rattle.std.specs.List.{slice_get, AllByRecursion}
-use Rattle.std.proofs.lemmas.Result.{err_from_is_err_and}
+use Rattle.std.proofs.Common.{◌≡◌, ℕ, List, Some, Err, sym, refl, ap, subst}
 use Rattle.short_rows.specs.Rows.{listed, listed_or_none}
-use Rattle.reading.specs.Written.{ReadsAll, Readable, Unreadable}
+use Rattle.reading.specs.Written.{ReadsAll}
 use Rattle.reading.specs.declared.raw.RawAtom.{RawAtom}
 use Rattle.reading.specs.declared.raw.RawTerm.{RawTerm}
 use Rattle.refusals.specs.declared.refusal.Refusal.TheVariants.{TermNotAllowed}

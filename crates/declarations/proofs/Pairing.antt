@@ -1,5 +1,5 @@
 -- Patterns beside what a caller writes, one by one.
-use Rattle.std.proofs.Common.{◌≡◌, ℕ, zero, suc, ◌+◌, ◌<◌, ◌≤◌, List, [], ◌∷◌, ◌++◌, length, take, set, IsErrAnd, Some, None, Ok, Err, Result, sym, refl, ap, ◌∙◌, subst, arith}
+use Rattle.std.proofs.Common.{◌≡◌, ℕ, zero, suc, ◌+◌, ◌<◌, List, [], ◌∷◌, length, take, set, IsErrAnd, Some, Err, Result, sym, ap, ◌∙◌, subst, arith}
 use lib.Seq.{take-length}
 use Rattle.std.specs.List.{slice_get, AllByRecursion}
 use Rattle.std.proofs.lemmas.Result.{err_from_is_err_and}
@@ -9,7 +9,7 @@ use Rattle.atoms.specs.declared.atom.Atom.{Atom}
 use Rattle.reading.specs.declared.raw.RawAtom.{RawAtom}
 use Rattle.refusals.specs.declared.refusal.Refusal.{Refusal}
 use Rattle.terms.specs.declared.term.PatternTerm.{PatternTerm}
-use Rattle.declarations.specs.Bodies.{Pairwise, OneToFour, TakenAs, Fine, FirstRefused, PatternsRefused, refused_atom, PatternsChecked}
+use Rattle.declarations.specs.Bodies.{Pairwise, OneToFour, TakenAs, Fine, refused_atom, PatternsChecked}
 use Rattle.declarations.specs.Checked.{AtomRefused}
 use Rattle.declarations.specs.declared.patterns.Patterns.{Patterns}
 

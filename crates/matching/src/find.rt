@@ -12,8 +12,8 @@ ghost use Rattle.short_rows.specs.Rows.{listed};
 use atoms::atom::Pattern;
 use fitting::binding::{Binding, unbound};
 use fitting::fit::fit;
-use short_rows::row::Row;
 use shelves::stock::Stock;
+use short_rows::row::Row;
 use terms::term::PatternTerm;
 use terms::variable::Variable;
 

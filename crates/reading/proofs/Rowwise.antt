@@ -1,5 +1,5 @@
 -- The exit at a term that cannot be read.
-use Rattle.std.proofs.Common.{◌≡◌, ℕ, List, take, IsErrAnd, Some, Ok, Err, Result, sym, ap, ◌∙◌, subst}
+use Rattle.std.proofs.Common.{◌≡◌, ℕ, List, take, IsErrAnd, Some, Err, Result, sym, ap, ◌∙◌, subst}
 use Rattle.std.specs.List.{slice_get, AllByRecursion}
 use Rattle.std.proofs.lemmas.Result.{err_from_is_err_and}
 use Rattle.reading.specs.declared.raw.RawTerm.{RawTerm}

@@ -1,5 +1,5 @@
 -- How terms are written, and what reads them back.
-use Rattle.std.specs.Prelude.{◌≡◌, ℕ, ◌+◌, List, [], ◌∷◌, map, take, Some, None, Ok, Err, Option, Result, ◌≢◌}
+use Rattle.std.specs.Prelude.{◌≡◌, ℕ, ◌+◌, List, map, take, Some, None, Ok, Err, Option, Result, ◌≢◌}
 use Rattle.std.specs.List.{slice_get, AllByRecursion}
 use Rattle.short_rows.specs.Rows.{listed}
 use Rattle.short_rows.specs.declared.row.Row.{Row}

@@ -1,12 +1,10 @@
 -- The computed fit finds the least binding under which a pattern fits.
-use Rattle.std.proofs.Common.{◌≡◌, ℕ, Bool, true, false, cond, ◌&&◌, ◌||◌, eqb, ◌⊎◌, List, [], ◌∷◌, is_some, Some, None, Option, unwrap_or, sym, refl, ap, ◌∙◌, subst, inl, inr}
+use Rattle.std.proofs.Common.{◌≡◌, ℕ, Bool, true, false, cond, ◌||◌, eqb, ◌⊎◌, List, [], ◌∷◌, is_some, Some, None, Option, unwrap_or, sym, refl, ap, ◌∙◌, subst, inl, inr}
 use mathlib.Core.Bool.{or-true, or-false, or_assoc}
-use Rattle.std.specs.Option.{option_map}
-use Rattle.std.specs.List.{slice_get, AllByRecursion}
 use Rattle.std.specs.Map.{update}
-use Rattle.std.proofs.lemmas.Bool.{eqb-true, eqb-false, eq-eqb, ne_eqb, both_ways, or_cases, and_parts, and_from}
-use Rattle.semantics.specs.Subject.{Slot, con, var, Pattern, Atom, Binding, Gives, GivesAll, Fits, Extends, LeastFit, NoFit, Fitted, is_var, in_slots}
-use Rattle.semantics.specs.Computed.{and_then, bind, fit_slot, fit_slots, fit, term_of, terms_of, atom_of, nothing}
+use Rattle.std.proofs.lemmas.Bool.{eqb-true, eq-eqb, both_ways}
+use Rattle.semantics.specs.Subject.{Slot, con, var, Pattern, Atom, Binding, Gives, GivesAll, Fits, Extends, Fitted, is_var, in_slots}
+use Rattle.semantics.specs.Computed.{and_then, bind, fit_slot, fit_slots, fit, term_of, terms_of}
 
 pub some_is : {A : Type 0} {x y : A} → Some x ≡ Some y → x ≡ y
 some_is {A} {x} {y} e = ap (λ o. unwrap_or o x) e

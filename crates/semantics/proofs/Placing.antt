@@ -1,11 +1,11 @@
 -- Fitting patterns at named places, one after another: the binding so far is the least.
-use Rattle.std.proofs.Common.{◌≡◌, ℕ, zero, suc, ◌≤◌, Bool, true, false, ◌||◌, List, [], ◌∷◌, length, take, is_some, Some, None, Option, sym, refl, ap, ◌∙◌, subst, arith}
-use mathlib.Core.Bool.{or-true, or-false, or_assoc}
+use Rattle.std.proofs.Common.{◌≡◌, ℕ, zero, suc, ◌≤◌, ◌||◌, List, [], ◌∷◌, length, take, Some, None, sym, refl, ap, ◌∙◌, subst}
+use mathlib.Core.Bool.{or-false, or_assoc}
 use Rattle.std.specs.List.{slice_get}
 use Rattle.std.proofs.lemmas.List.{take_all}
 use Rattle.semantics.specs.Subject.{Pattern, Atom, Binding, Fits, Extends, Exactly, AtPlaces, in_slots, in_patterns}
 use Rattle.semantics.specs.Computed.{nothing, fit}
-use Rattle.semantics.proofs.Fitting.{some_is, none_some, Grown, all_more, fit_sound, fit_complete}
+use Rattle.semantics.proofs.Fitting.{some_is, none_some, all_more, fit_sound, fit_complete}
 
 module _ (pile : List Atom) where
   -- under b the pattern fits the atom at place k

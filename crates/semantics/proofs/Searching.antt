@@ -1,12 +1,12 @@
 -- The computed search finds a match wherever there is one, and need not go back over a pattern whose further variables
 -- stand in no later one.
-use Rattle.std.proofs.Common.{◌≡◌, ℕ, zero, suc, Bool, true, false, cond, not, ◌&&◌, ◌||◌, eqb, ◌⊎◌, List, [], ◌∷◌, is_some, Some, None, Option, sym, refl, ap, ◌∙◌, subst, inl, inr}
+use Rattle.std.proofs.Common.{◌≡◌, ℕ, zero, suc, Bool, true, false, cond, not, ◌&&◌, ◌||◌, eqb, List, [], ◌∷◌, is_some, Some, None, Option, sym, refl, ap, ◌∙◌, subst}
 use mathlib.Core.Bool.{or-true, or-false, or_assoc}
 use mathlib.Core.Logic.{∥∥₁_elim}
 use Rattle.std.specs.Option.{option_or}
 use Rattle.std.specs.List.{slice_get, AllByRecursion}
-use Rattle.std.proofs.lemmas.Bool.{both_ways, or_cases, eqb-true, eq-eqb}
-use Rattle.semantics.specs.Subject.{Slot, con, var, Pattern, Atom, Binding, GivesAll, Fits, Candidate, On, Holds, Match, Searched, Extends, in_slots, in_patterns}
+use Rattle.std.proofs.lemmas.Bool.{both_ways, eqb-true, eq-eqb}
+use Rattle.semantics.specs.Subject.{Slot, con, var, Pattern, Atom, Binding, GivesAll, Fits, Candidate, On, Holds, Searched, Extends, in_slots, in_patterns}
 use Rattle.semantics.specs.Computed.{fit, nothing, and_then, first_given, first_match, reaches}
 use Rattle.semantics.proofs.Fitting.{some_is, none_some, then_some, Grown, all_more, fit_sound, fit_complete}
 

@@ -1,5 +1,5 @@
 -- Two values of a sort with the same number are equal: that a number is in range has one proof at most.
-use Rattle.std.proofs.Common.{◌≡◌, ℕ, ◌≤◌}
+use Rattle.std.proofs.Common.{◌≡◌, ◌≤◌}
 use mathlib.Core.HLevel.{is_prop→PathP}
 use native.Mathlib.Bridge.{le_prop}
 use Rattle.terms.specs.declared.constant.Constant.{Constant}

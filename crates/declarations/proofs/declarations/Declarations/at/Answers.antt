@@ -1,4 +1,4 @@
-use Rattle.std.proofs.Common.{◌≡◌, ◌≤◌, sym, arith}
+use Rattle.std.proofs.Common.{sym, arith}
 use Rattle.std.proofs.lemmas.Option.{slice_get_past}
 use Rattle.declarations.specs.Arities.{arity_value, arities_of}
 use Rattle.declarations.proofs.Numbered.{nth_front, short_front}

@@ -1,4 +1,4 @@
-use Rattle.std.proofs.Common.{◌≡◌, ℕ, ◌≤◌, Some, sym, refl, ap, ◌∙◌, arith}
+use Rattle.std.proofs.Common.{◌≡◌, Some, sym, refl, ap, ◌∙◌, arith}
 use Rattle.declarations.specs.Arities.{arity_value, arities_of}
 use Rattle.semantics.specs.Subject.{numbered}
 use Rattle.declarations.specs.Checked.{undeclared, other_arity}

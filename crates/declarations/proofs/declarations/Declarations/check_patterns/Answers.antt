@@ -1,7 +1,5 @@
-use Rattle.std.proofs.Common.{◌≡◌, ℕ, ◌<◌, ◌≤◌, length, Some, sym, refl, ap, ◌∙◌, arith, length-set, rules}
-use Rattle.std.specs.List.{slice_get}
+use Rattle.std.proofs.Common.{refl, ◌∙◌, arith, length-set}
 use Rattle.std.proofs.lemmas.Option.{slice_get_read}
-use Rattle.reading.specs.declared.raw.RawAtom.{RawAtom}
 use Rattle.declarations.specs.Arities.{arities_of}
 use Rattle.declarations.specs.Bodies.{TakenAs}
 use Rattle.declarations.proofs.Pairing.{pairwise_more, pairwise_all, all_fine, stops_at_atom}

@@ -1,5 +1,5 @@
-use Rattle.std.proofs.Common.{◌≡◌, ℕ, suc, ◌<◌, ◌≤◌, List, [], ◌∷◌, ◌++◌, length, sym, refl, ap, ◌∙◌, subst, arith, rules}
-use Rattle.declarations.specs.Arities.{arity_value, arities_of, NotDeclared, none_left, bad_arity}
+use Rattle.std.proofs.Common.{◌<◌, ◌≤◌, [], ◌∷◌, ◌++◌, length, refl, ap, ◌∙◌, arith}
+use Rattle.declarations.specs.Arities.{arity_value, arities_of, none_left, bad_arity}
 use Rattle.declarations.proofs.Numbered.{front_more, length_front}
 use Rattle.declarations.proofs.declarations.Declarations.declare.Goals as goal
 

@@ -1,10 +1,10 @@
-use Rattle.std.proofs.Common.{◌≡◌, map, sym, refl, ap, ◌∙◌, arith}
+use Rattle.std.proofs.Common.{map, sym, ◌∙◌, arith}
 use Rattle.semantics.specs.Computed.{covers}
 use Rattle.std.proofs.lemmas.List.{at_drop_all}
 use Rattle.terms.specs.Meaning.{slot_meant}
 use Rattle.short_rows.specs.Rows.{listed}
 use Rattle.rules.specs.Covering.{slots_meant}
-use Rattle.rules.proofs.Scanning.{covers_more, covers_stops, nth_within}
+use Rattle.rules.proofs.Scanning.{covers_more, nth_within}
 use Rattle.rules.proofs.rule.covering.covers.Goals as goal
 use Rattle.rules.proofs.rule.covering.covers.Goals.{in-Some+else-not-covered, in_default}
 

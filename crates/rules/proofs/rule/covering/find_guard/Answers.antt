@@ -1,4 +1,4 @@
-use Rattle.std.proofs.Common.{◌≡◌, map, sym, ap, ◌∙◌}
+use Rattle.std.proofs.Common.{map, ap, ◌∙◌}
 use Rattle.semantics.specs.Computed.{guard}
 use Rattle.atoms.specs.Meaning.{pattern_meant}
 use Rattle.rules.proofs.Scanning.{finds_guard}

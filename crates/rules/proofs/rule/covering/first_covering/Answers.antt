@@ -1,11 +1,10 @@
-use Rattle.std.proofs.Common.{◌≡◌, ◌+◌, map, sym, refl, ap, ◌∙◌, arith}
+use Rattle.std.proofs.Common.{◌+◌, map, sym, refl, ◌∙◌}
 use Rattle.semantics.specs.Computed.{guard_from}
-use Rattle.std.specs.List.{slice_get}
 use Rattle.std.specs.Option.{option_map}
 use Rattle.std.proofs.lemmas.List.{at_drop_all}
 use Rattle.std.proofs.lemmas.Option.{slice_get_read}
 use Rattle.atoms.specs.Meaning.{pattern_meant}
-use Rattle.rules.proofs.Scanning.{guard_more, guard_here, guard_start}
+use Rattle.rules.proofs.Scanning.{guard_more, guard_here}
 use Rattle.rules.proofs.rule.covering.first_covering.Goals as goal
 
 pub returns-then-covers_body : goal.returns-then-covers_body

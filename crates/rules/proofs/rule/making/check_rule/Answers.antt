@@ -1,4 +1,4 @@
-use Rattle.std.proofs.Common.{◌≡◌, sym, subst}
+use Rattle.std.proofs.Common.{sym, subst}
 use Rattle.declarations.specs.Arities.{arities_of}
 use Rattle.rules.specs.Rules.{RuleChecked}
 use Rattle.rules.proofs.Writing.{rule_stops, body_refused, head_refused, rule_made}
