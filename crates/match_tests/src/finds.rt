@@ -5,10 +5,10 @@ use flat_shelf::flat::FlatShelf;
 use matching::find::find_match;
 use matching::places::fit_places;
 use reading::raw::RawTerm;
-use short_rows::row::Row;
 use shelves::placed::Placed;
 use shelves::record::Record;
 use shelves::stock::{Shelf, Stock};
+use short_rows::row::Row;
 use std::process::Abort;
 use std::test::Fail;
 

@@ -1,8 +1,8 @@
 //! Atoms to put, and looks at what then stands.
 use atoms::atom::{Atom, GroundAtom};
-use short_rows::row::Row;
 use shelves::placed::Placed;
 use shelves::stock::{Shelf, Stock};
+use short_rows::row::Row;
 use std::process::Abort;
 use std::test::Fail;
 use terms::constant::Constant;

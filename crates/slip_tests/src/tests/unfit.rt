@@ -2,9 +2,9 @@
 use atoms::atom::{Atom, GroundAtom};
 use checker::checker::Checker;
 use flat_shelf::flat::FlatShelf;
-use short_rows::row::Row;
 use shelves::record::Record;
 use shelves::stock::Shelf;
+use short_rows::row::Row;
 use std::test::Fail;
 use terms::constant::Constant;
 use terms::null::Null;
