@@ -12,6 +12,7 @@ use Rattle.chase.specs.Chase.{step, put_head, fresh}
 use Rattle.chase.specs.Law.{is_broken}
 use Rattle.chase.specs.Satisfying.{Satisfied}
 use Rattle.chase.proofs.Laws.{steps_exact}
+use Rattle.chase.proofs.Numbers.{numbered_same}
 use Rattle.chase.proofs.Piles.{every_map}
 use Rattle.matching.specs.Places.{unfit}
 use Rattle.protocol.specs.Law.{Gives}
@@ -28,7 +29,7 @@ gives rules s k p a n e =
     let u = (steps_exact rules s k p).1 (ap is_broken e) in
     let f = fresh u.by s.nulls u.rule.head.slots in
     let h = added s a (atom_of f.0 u.rule.head) n f.1 (chase.stands s.pile (atom_of f.0 u.rule.head)) (chase.is_full s) (sym e ∙ (steps_exact rules s k p).0 u) in
-    record { rule = u.rule; named_rule = u.named; by = u.by; fires = u.fires; bears = h }
+    record { rule = u.rule; named_rule = sym (numbered_same rules k) ∙ u.named; by = u.by; fires = u.fires; bears = h }
 
 satisfied_none : (rules : List Rule) → AllByRecursion (Satisfied []) rules
 satisfied_none [] = tt
