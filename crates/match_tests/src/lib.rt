@@ -5,5 +5,4 @@
 mod finds;
 #[cfg(test)]
 mod fits;
-#[cfg(test)]
 mod made;

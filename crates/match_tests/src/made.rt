@@ -1,13 +1,9 @@
 //! Patterns and ground atoms from raw terms.
 use atoms::atom::{Atom, GroundAtom, Pattern};
-use fitting::binding::Binding;
-use fitting::instance::bound_atom;
 use reading::raw::RawTerm;
 use reading::sort::read_row;
 use refusals::refusal::Refusal;
 use short_rows::row::Row;
-use std::process::Abort;
-use std::test::Fail;
 use terms::predicate::Predicate;
 
 /// What is written is no atom.
@@ -42,16 +38,4 @@ pub(crate) fn atom(predicate: usize, row: Row<RawTerm>) -> Result<GroundAtom, Un
 pub(crate) fn figures(refusal: Refusal) -> (u8, usize, usize) {
     let (first, second) = refusal.figures();
     (refusal.number(), first, second)
-}
-
-/// The pattern, so bound, is the atom with that predicate and those terms.
-pub(crate) fn bound_is(
-    rt: &impl Abort,
-    binding: Binding,
-    pattern: &Pattern,
-    predicate: usize,
-    row: Row<RawTerm>,
-) -> Result<(), Fail> {
-    assert!(rt; bound_atom(binding, pattern).ok_or(Unfit)? == atom(predicate, row)?);
-    Ok(())
 }

@@ -3,7 +3,6 @@
 
 #[cfg(test)]
 mod flat;
-#[cfg(test)]
 mod made;
 #[cfg(test)]
 mod overlay;

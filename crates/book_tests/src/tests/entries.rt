@@ -1,16 +1,14 @@
 //! What is refused, with both figures.
-use crate::tests::{c, constraint, declare, one, query, rule, sizes, start, two, v};
-use book::draft::Draft;
+use crate::tests::{answer, c, one, start, two, v};
 use reading::raw::{RawAtom, RawTerm};
-use std::process::Abort;
 use std::test::Fail;
 
 #[test]
 fn arities(rt: HostRuntime) -> Result<(), Fail> {
     let mut draft = start(&rt, rt.alloc())?;
-    declare(&rt, &mut draft, 0, (1, 0, 0));
-    declare(&rt, &mut draft, 5, (1, 5, 0));
-    declare(&rt, &mut draft, 4, (0, 4, 0));
+    assert_eq!(rt; answer(draft.declare(0)), (1, 0, 0));
+    assert_eq!(rt; answer(draft.declare(5)), (1, 5, 0));
+    assert_eq!(rt; answer(draft.declare(4)), (0, 4, 0));
     let book = draft.seal();
     let Some(last) = book.arity(4) else {
         return Err(Fail::new("predicate 4 is not declared"));
@@ -25,80 +23,86 @@ fn arities(rt: HostRuntime) -> Result<(), Fail> {
 fn predicates(rt: HostRuntime) -> Result<(), Fail> {
     let mut draft = start(&rt, rt.alloc())?;
     let good = one(1, v(1));
-    query(&rt, &mut draft, &[good, one(9, v(1))], (3, 1, 9));
-    query(&rt, &mut draft, &[one(0, v(1))], (3, 0, 0));
-    query(&rt, &mut draft, &[one(65, v(9))], (3, 0, 65));
-    rule(&rt, &mut draft, &[good, good], &one(4, v(1)), (3, 2, 4));
-    sizes(&rt, &draft.seal(), (0, 0, 0));
+    assert_eq!(rt; answer(draft.query(&[good, one(9, v(1))])), (3, 1, 9));
+    assert_eq!(rt; answer(draft.query(&[one(0, v(1))])), (3, 0, 0));
+    assert_eq!(rt; answer(draft.query(&[one(65, v(9))])), (3, 0, 65));
+    assert_eq!(rt; answer(draft.rule(&[good, good], &one(4, v(1)))), (3, 2, 4));
+    let book = draft.seal();
+    assert_eq!(rt; book.rules() + book.constraints() + book.queries(), 0);
     Ok(())
-}
-
-/// Constraints with a wrong number of terms.
-fn constraints_refused(rt: &impl Abort, draft: &mut Draft) {
-    let five = [v(1), v(1), v(1), v(1), v(1)];
-    constraint(rt, draft, &[one(1, v(1)), one(2, v(1))], (4, 1, 1));
-    constraint(rt, draft, &[RawAtom::new(1, &[])], (4, 0, 0));
-    constraint(rt, draft, &[RawAtom::new(2, &five)], (4, 0, 5));
-    constraint(rt, draft, &[two(1, v(9), c(0))], (4, 0, 2));
 }
 
 #[test]
 fn numbers_of_terms(rt: HostRuntime) -> Result<(), Fail> {
     let mut draft = start(&rt, rt.alloc())?;
-    constraints_refused(&rt, &mut draft);
-    rule(&rt, &mut draft, &[one(1, v(1))], &one(2, v(9)), (4, 1, 1));
-    sizes(&rt, &draft.seal(), (0, 0, 0));
+    let good = one(1, v(1));
+    let five = [v(1), v(1), v(1), v(1), v(1)];
+    assert_eq!(rt; answer(draft.constraint(&[good, one(2, v(1))])), (4, 1, 1));
+    assert_eq!(rt;
+        answer(draft.constraint(&[RawAtom::new(1, &[])])),
+        (4, 0, 0)
+    );
+    assert_eq!(rt;
+        answer(draft.constraint(&[RawAtom::new(2, &five)])),
+        (4, 0, 5)
+    );
+    assert_eq!(rt; answer(draft.constraint(&[two(1, v(9), c(0))])), (4, 0, 2));
+    assert_eq!(rt; answer(draft.rule(&[good], &one(2, v(9)))), (4, 1, 1));
+    let book = draft.seal();
+    assert_eq!(rt; book.rules() + book.constraints() + book.queries(), 0);
     Ok(())
-}
-
-/// Queries with a variable or a null that may not stand there.
-fn variables_refused(rt: &impl Abort, draft: &mut Draft) {
-    query(rt, draft, &[two(2, v(1), RawTerm::Null(3))], (5, 0, 1));
-    query(rt, draft, &[one(1, v(1)), one(1, v(9))], (5, 1, 0));
-    query(rt, draft, &[one(1, v(0))], (5, 0, 0));
-}
-
-/// Queries with a constant that may not stand there.
-fn constants_refused(rt: &impl Abort, draft: &mut Draft) {
-    query(rt, draft, &[two(2, c(0), c(1000000))], (5, 0, 0));
-    query(rt, draft, &[two(2, c(999999), c(1000000))], (5, 0, 1));
 }
 
 #[test]
 fn terms_out_of_range(rt: HostRuntime) -> Result<(), Fail> {
     let mut draft = start(&rt, rt.alloc())?;
     let good = one(1, v(1));
-    variables_refused(&rt, &mut draft);
-    constants_refused(&rt, &mut draft);
-    rule(&rt, &mut draft, &[good, good], &one(1, v(9)), (5, 2, 0));
-    sizes(&rt, &draft.seal(), (0, 0, 0));
+    assert_eq!(rt;
+        answer(draft.query(&[two(2, v(1), RawTerm::Null(3))])),
+        (5, 0, 1)
+    );
+    assert_eq!(rt; answer(draft.query(&[good, one(1, v(9))])), (5, 1, 0));
+    assert_eq!(rt; answer(draft.query(&[one(1, v(0))])), (5, 0, 0));
+    assert_eq!(rt; answer(draft.query(&[two(2, c(0), c(1000000))])), (5, 0, 0));
+    assert_eq!(rt;
+        answer(draft.query(&[two(2, c(999999), c(1000000))])),
+        (5, 0, 1)
+    );
+    assert_eq!(rt; answer(draft.rule(&[good, good], &one(1, v(9)))), (5, 2, 0));
+    let book = draft.seal();
+    assert_eq!(rt; book.rules() + book.constraints() + book.queries(), 0);
     Ok(())
-}
-
-/// No pattern, or five.
-fn patterns_refused(rt: &impl Abort, draft: &mut Draft) {
-    let good = one(1, v(1));
-    let bad = one(9, v(9));
-    rule(rt, draft, &[], &bad, (7, 0, 0));
-    rule(rt, draft, &[bad, bad, bad, bad, bad], &bad, (7, 5, 0));
-    constraint(rt, draft, &[], (7, 0, 0));
-    query(rt, draft, &[good, good, good, good, good], (7, 5, 0));
-}
-
-/// One pattern, or four.
-fn patterns_taken(rt: &impl Abort, draft: &mut Draft) {
-    let good = one(1, v(1));
-    rule(rt, draft, &[good], &good, (0, 1, 0));
-    rule(rt, draft, &[good, good, good, good], &good, (0, 2, 0));
-    constraint(rt, draft, &[good, good, good, good], (0, 1, 0));
-    query(rt, draft, &[good], (0, 1, 0));
 }
 
 #[test]
 fn numbers_of_patterns(rt: HostRuntime) -> Result<(), Fail> {
     let mut draft = start(&rt, rt.alloc())?;
-    patterns_refused(&rt, &mut draft);
-    patterns_taken(&rt, &mut draft);
-    sizes(&rt, &draft.seal(), (2, 1, 1));
+    let good = one(1, v(1));
+    let bad = one(9, v(9));
+    assert_eq!(rt; answer(draft.rule(&[], &bad)), (7, 0, 0));
+    assert_eq!(rt;
+        answer(draft.rule(&[bad, bad, bad, bad, bad], &bad)),
+        (7, 5, 0)
+    );
+    assert_eq!(rt; answer(draft.constraint(&[])), (7, 0, 0));
+    assert_eq!(rt;
+        answer(draft.query(&[good, good, good, good, good])),
+        (7, 5, 0)
+    );
+    assert_eq!(rt; answer(draft.rule(&[good], &good)), (0, 1, 0));
+    assert_eq!(rt;
+        answer(draft.rule(&[good, good, good, good], &good)),
+        (0, 2, 0)
+    );
+    assert_eq!(rt;
+        answer(draft.constraint(&[good, good, good, good])),
+        (0, 1, 0)
+    );
+    assert_eq!(rt; answer(draft.query(&[good])), (0, 1, 0));
+    let book = draft.seal();
+    assert_eq!(rt;
+        (book.rules(), book.constraints(), book.queries()),
+        (2, 1, 1)
+    );
     Ok(())
 }

@@ -1,5 +1,5 @@
 //! The sizes of the tables.
-use crate::tests::{constraint, declare, one, query, rule, start, v};
+use crate::tests::{answer, one, start, v};
 use book::draft::Draft;
 use std::test::Fail;
 
@@ -9,8 +9,8 @@ fn predicates_run_out(rt: HostRuntime) -> Result<(), Fail> {
     for _ in 0..64 {
         let _ = draft.declare(3);
     }
-    declare(&rt, &mut draft, 1, (2, 0, 0));
-    declare(&rt, &mut draft, 9, (2, 0, 0));
+    assert_eq!(rt; answer(draft.declare(1)), (2, 0, 0));
+    assert_eq!(rt; answer(draft.declare(9)), (2, 0, 0));
     let book = draft.seal();
     assert!(rt; book.arity(64).is_some());
     assert!(rt; book.arity(65).is_none());
@@ -24,8 +24,8 @@ fn rules_run_out(rt: HostRuntime) -> Result<(), Fail> {
     for _ in 0..64 {
         let _ = draft.rule(&[good], &good);
     }
-    rule(&rt, &mut draft, &[good], &good, (8, 0, 0));
-    rule(&rt, &mut draft, &[], &good, (8, 0, 0));
+    assert_eq!(rt; answer(draft.rule(&[good], &good)), (8, 0, 0));
+    assert_eq!(rt; answer(draft.rule(&[], &good)), (8, 0, 0));
     let book = draft.seal();
     assert_eq!(rt; book.rules(), 64);
     assert!(rt; book.rule(64).is_some());
@@ -41,7 +41,7 @@ fn constraints_run_out(rt: HostRuntime) -> Result<(), Fail> {
     for _ in 0..32 {
         let _ = draft.constraint(&[good]);
     }
-    constraint(&rt, &mut draft, &[good], (8, 0, 0));
+    assert_eq!(rt; answer(draft.constraint(&[good])), (8, 0, 0));
     let book = draft.seal();
     assert_eq!(rt; book.constraints(), 32);
     assert!(rt; book.constraint(32).is_some());
@@ -56,7 +56,7 @@ fn queries_run_out(rt: HostRuntime) -> Result<(), Fail> {
     for _ in 0..16 {
         let _ = draft.query(&[good]);
     }
-    query(&rt, &mut draft, &[one(9, v(9))], (8, 0, 0));
+    assert_eq!(rt; answer(draft.query(&[one(9, v(9))])), (8, 0, 0));
     let book = draft.seal();
     assert_eq!(rt; book.queries(), 16);
     assert!(rt; book.query(16).is_some());
