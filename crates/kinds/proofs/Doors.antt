@@ -1,6 +1,6 @@
 -- The reading of each kind of line is the inverse of its writing.
 use Rattle.std.proofs.Common.{◌≡◌, ℕ, ◌^◌, ◌<◌, ◌≤◌, Bool, true, false, cond, ◌&&◌, eqb, leb, List, [], ◌∷◌, ◌++◌, map, length, get_or, drop, Some, None, decimal, Option, sym, refl, ap, ◌∙◌, subst, append-nil, arith}
-use Rattle.std.specs.List.{flat_map, AllByRecursion as All}
+use Rattle.std.specs.List.{flat_map, AllByRecursion}
 use Rattle.std.specs.Option.{option_map}
 use Rattle.std.proofs.lemmas.List.{append_assoc, length-map}
 use Rattle.std.proofs.lemmas.Bool.{cond-true, cond-false, cond_both, le-leb, leb-true, eqb-true, and_from, and_parts}
@@ -86,7 +86,7 @@ list_picks : (body : List Said) (h : Option Said) (l : List Said) → GoodSpoken
 list_picks body (Some x) l g e = no_none l e
 list_picks body None l g e =
     let p = few_found body l e in
-    (record { some = p.some; few = p.few; atoms = subst (All GoodAtom) p.same g.body }, ap as_list (sym p.same))
+    (record { some = p.some; few = p.few; atoms = subst (AllByRecursion GoodAtom) p.same g.body }, ap as_list (sym p.same))
 
 pub list_inverse : Inverse GoodList list_text list_of
 list_inverse = chain GoodSpoken spoken_text spoken_of spoken_inverse GoodList list_text plain_of as_list
@@ -94,12 +94,12 @@ list_inverse = chain GoodSpoken spoken_text spoken_of spoken_inverse GoodList li
     (λ s l g e. list_picks s.body s.head l g e)
     (λ l g. (record { some = g.some; body = g.atoms; head = tt }, few_kept l g.some g.few))
 
-rule_some : (body : List Said) (x : Said) (r : Ruled) → All GoodAtom body → GoodAtom x → (o : Option (List Said)) → few_of body ≡ o → option_map (λ l. record { body = l; head = x }) o ≡ Some r → GoodRule r × (as_rule r ≡ record { body = body; head = Some x })
+rule_some : (body : List Said) (x : Said) (r : Ruled) → AllByRecursion GoodAtom body → GoodAtom x → (o : Option (List Said)) → few_of body ≡ o → option_map (λ l. record { body = l; head = x }) o ≡ Some r → GoodRule r × (as_rule r ≡ record { body = body; head = Some x })
 rule_some body x r g h None k e = no_none r e
 rule_some body x r g h (Some l) k e =
     let p = few_found body l k in
     let q : record { body = l; head = x } ≡ r = cc in
-    (subst GoodRule q (record { body = record { some = p.some; few = p.few; atoms = subst (All GoodAtom) p.same g }; head = h }), ap as_rule (sym q) ∙ ap (λ l. record { body = l; head = Some x }) (sym p.same))
+    (subst GoodRule q (record { body = record { some = p.some; few = p.few; atoms = subst (AllByRecursion GoodAtom) p.same g }; head = h }), ap as_rule (sym q) ∙ ap (λ l. record { body = l; head = Some x }) (sym p.same))
 
 rule_picks : (body : List Said) (h : Option Said) (r : Ruled) → GoodSpoken (record { body = body; head = h }) → rule_from (record { body = body; head = h }) ≡ Some r → GoodRule r × (as_rule r ≡ record { body = body; head = h })
 rule_picks body None r g e = no_none r e
@@ -132,11 +132,11 @@ bare_text : (ns : List ℕ) → flat_map (λ t. 32 ∷ term_text t) (map bare ns
 bare_text [] = refl
 bare_text (n ∷ ns) = ap (λ l. (32 ∷ decimal n) ++ l) (bare_text ns)
 
-bare_small : (ns : List ℕ) → All SmallNumber ns → All SmallTerm (map bare ns)
+bare_small : (ns : List ℕ) → AllByRecursion SmallNumber ns → AllByRecursion SmallTerm (map bare ns)
 bare_small [] h = tt
 bare_small (n ∷ ns) h = (h.0, bare_small ns h.1)
 
-small_bare : (ns : List ℕ) → All SmallTerm (map bare ns) → All SmallNumber ns
+small_bare : (ns : List ℕ) → AllByRecursion SmallTerm (map bare ns) → AllByRecursion SmallNumber ns
 small_bare [] h = tt
 small_bare (n ∷ ns) h = (h.0, small_bare ns h.1)
 
@@ -164,22 +164,22 @@ bare_written (t ∷ ts) acc ns e = bare_step t acc ts ns (bare_written ts) e
 record GoodNumbers (ns : List ℕ) : Type 0 where
   some : 0 < length ns
   few : length ns ≤ 5
-  small : All SmallNumber ns
+  small : AllByRecursion SmallNumber ns
 
 numbers_written : (a : Said) (ns : List ℕ) → GoodAtom a → numbers_of a ≡ Some ns → GoodNumbers ns × (numbers_text ns ≡ atom_text a)
 numbers_written a ns g e =
     let b = bare_written a.terms (a.predicate ∷ []) ns e in
     let l : length b.more ≤ 4 = omega (arith, length-map b.more bare, ap length b.terms, g.few) in
-    let t : All SmallNumber b.more = small_bare b.more (subst (All SmallTerm) (sym b.terms) g.terms) in
+    let t : AllByRecursion SmallNumber b.more = small_bare b.more (subst (AllByRecursion SmallTerm) (sym b.terms) g.terms) in
     (subst GoodNumbers (sym b.all) (record { some = omega arith; few = omega arith; small = (g.predicate, t) }), ap numbers_text b.all ∙ ap (λ l. decimal a.predicate ++ l) (sym (bare_text b.more) ∙ ap (flat_map (λ t. 32 ∷ term_text t)) b.terms))
 
-numbers_read : (n : ℕ) (ns : List ℕ) → SmallNumber n → All SmallNumber ns → length ns ≤ 4 → fact_of (numbers_text (n ∷ ns)) ≡ Some (record { predicate = n; terms = map bare ns })
+numbers_read : (n : ℕ) (ns : List ℕ) → SmallNumber n → AllByRecursion SmallNumber ns → length ns ≤ 4 → fact_of (numbers_text (n ∷ ns)) ≡ Some (record { predicate = n; terms = map bare ns })
 numbers_read n ns h hs l =
     ap (λ x. fact_of (decimal n ++ x)) (sym (bare_text ns))
     ∙ fact_inverse.complete (record { predicate = n; terms = map bare ns }) (record { predicate = h; terms = bare_small ns hs; few = omega (arith, length-map ns bare) })
 
 -- a letter with numbers
-lettered : (l n : ℕ) (ns : List ℕ) → eqb l 65 ≡ false → eqb l 76 ≡ false → SmallNumber n → All SmallNumber ns → length ns ≤ 4 → asked_of (l ∷ 32 ∷ numbers_text (n ∷ ns)) ≡ numbered_of l (n ∷ ns)
+lettered : (l n : ℕ) (ns : List ℕ) → eqb l 65 ≡ false → eqb l 76 ≡ false → SmallNumber n → AllByRecursion SmallNumber ns → length ns ≤ 4 → asked_of (l ∷ 32 ∷ numbers_text (n ∷ ns)) ≡ numbered_of l (n ∷ ns)
 lettered l n ns na nl h hs k =
     ap (bound (asked_with l)) (numbers_read n ns h hs k)
     ∙ cond-false (eqb l 65) _ _ na ∙ cond-false (eqb l 76) _ _ nl
@@ -225,14 +225,14 @@ one_call : (ns : List ℕ) (K : ℕ → Asked) (k : Asked) (x : ℕ) → ((n : �
 one_call ns K k x w g e =
     let p = passed (eqb (length ns) 1) (K (get_or ns 0 0)) k e in
     let q = one_number ns (eqb-true _ _ p.0) in
-    let s : All SmallNumber (get_or ns 0 0 ∷ []) = subst (All SmallNumber) q g.small in
+    let s : AllByRecursion SmallNumber (get_or ns 0 0 ∷ []) = subst (AllByRecursion SmallNumber) q g.small in
     subst (λ z. Written z (x ∷ 32 ∷ numbers_text ns)) p.1 (subst (λ z. Written (K (get_or ns 0 0)) (x ∷ 32 ∷ numbers_text z)) (sym q) (w (get_or ns 0 0) s.0))
 
 step_call : (ns : List ℕ) (k : Asked) → GoodNumbers ns → cond (eqb (length ns) 2) (Some (step (get_or ns 0 0) (get_or ns 1 0))) None ≡ Some k → Written k (83 ∷ 32 ∷ numbers_text ns)
 step_call ns k g e =
     let p = passed (eqb (length ns) 2) (step (get_or ns 0 0) (get_or ns 1 0)) k e in
     let q = two_numbers ns (eqb-true _ _ p.0) in
-    let s : All SmallNumber (get_or ns 0 0 ∷ get_or ns 1 0 ∷ []) = subst (All SmallNumber) q g.small in
+    let s : AllByRecursion SmallNumber (get_or ns 0 0 ∷ get_or ns 1 0 ∷ []) = subst (AllByRecursion SmallNumber) q g.small in
     subst (λ z. Written z (83 ∷ 32 ∷ numbers_text ns)) p.1 ((s.0, s.1.0), ap (λ z. 83 ∷ 32 ∷ numbers_text z) (sym q))
 
 claim_call : (ns : List ℕ) (k : Asked) → GoodNumbers ns → cond (leb (length ns) 4) (Some (claim ns)) None ≡ Some k → Written k (67 ∷ 32 ∷ numbers_text ns)

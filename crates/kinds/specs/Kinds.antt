@@ -1,6 +1,6 @@
 -- The kinds of lines: how each is written.
 use Rattle.std.specs.Prelude.{ℕ, ◌^◌, ◌<◌, ◌≤◌, cond, ◌&&◌, List, [], ◌∷◌, ◌++◌, length, drop, Some, None, decimal, Option, ◌==◌, nat_le, slice_index}
-use Rattle.std.specs.List.{flat_map, AllByRecursion as All}
+use Rattle.std.specs.List.{flat_map, AllByRecursion}
 use Rattle.std.specs.Option.{option_map}
 use Rattle.reading.specs.declared.raw.RawTerm.{RawTerm}
 use Rattle.reading.specs.declared.raw.RawTerm.TheVariants as raw
@@ -19,7 +19,7 @@ rule_text r = list_text r.body ++ 59 ∷ atom_text r.head
 pub record GoodList (body : List Said) : Type 0 where
   pub some : 0 < length body
   pub few : length body ≤ 4
-  pub atoms : All GoodAtom body
+  pub atoms : AllByRecursion GoodAtom body
 
 pub record GoodRule (r : Ruled) : Type 0 where
   pub body : GoodList r.body
@@ -60,7 +60,7 @@ SmallNumber n = n < 10 ^ 7
 pub record GoodPlaces (ps : List ℕ) : Type 0 where
   pub some : 0 < length ps
   pub few : length ps ≤ 4
-  pub small : All SmallNumber ps
+  pub small : AllByRecursion SmallNumber ps
 
 abbrev pub GoodAsked : Asked → Type 0
 GoodAsked (open_derivation q) = SmallNumber q

@@ -1,6 +1,6 @@
 -- What is read from a line, and how it is written.
 use Rattle.std.specs.Prelude.{ℕ, ◌≤◌, List, map, take, Some, None, Option}
-use Rattle.std.specs.List.{AllByRecursion as All}
+use Rattle.std.specs.List.{AllByRecursion}
 use Rattle.reading.specs.declared.raw.RawAtom.{RawAtom}
 use Rattle.calls.specs.Named.{named}
 use Rattle.lines.specs.Atoms.{Said, told, atom_text, GoodAtom}
@@ -36,7 +36,7 @@ abbrev pub spelled : AtomList → List Said
 spelled l = map told (held l)
 
 abbrev pub WholeList : AtomList → Type 0
-WholeList l = All Whole (held l)
+WholeList l = AllByRecursion Whole (held l)
 
 abbrev pub atoms_text : AtomList → List ℕ
 atoms_text l = list_text (spelled l)

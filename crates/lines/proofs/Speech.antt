@@ -1,6 +1,6 @@
 -- Gathering is the inverse of writing.
 use Rattle.std.proofs.Common.{◌≡◌, ℕ, suc, ◌+◌, ◌<◌, ◌≤◌, Bool, true, false, ltb, List, [], ◌∷◌, ◌++◌, length, Some, None, Option, sym, refl, ap, ◌∙◌, subst, append_assoc, append-nil, arith}
-use Rattle.std.specs.List.{flat_map, AllByRecursion as All}
+use Rattle.std.specs.List.{flat_map, AllByRecursion}
 use Rattle.std.proofs.ByRecursion.{All-append, All-push, All-weaker}
 use Rattle.std.proofs.lemmas.List.{length_push, flat_map_more, append_cancel_right}
 use Rattle.std.proofs.lemmas.Bool.{cond-true, cond_both, lt-ltb, ltb-true, true≢false}
@@ -86,7 +86,7 @@ atom_read' p (t ∷ ts) m rest body past h = words_read t ts m rest body past (b
 atom_read : (a : Said) (m : Mark) (rest : List Token) (body : List Said) (past : Bool) → Few a → gathers body past None (atom_tokens a m ++ rest) ≡ on_mark body past a rest m
 atom_read a m rest body past h = atom_read' a.predicate a.terms m rest body past h
 
-list_read : (m : Mark) (rest : List Token) (K : List Said → Option Spoken) → ((body : List Said) (a : Said) → on_mark body false a rest m ≡ K (body ++ a ∷ [])) → (more : List Said) (a : Said) (body : List Said) → Few a → All Few more → gathers body false None (list_tokens a more m ++ rest) ≡ K (body ++ a ∷ more)
+list_read : (m : Mark) (rest : List Token) (K : List Said → Option Spoken) → ((body : List Said) (a : Said) → on_mark body false a rest m ≡ K (body ++ a ∷ [])) → (more : List Said) (a : Said) (body : List Said) → Few a → AllByRecursion Few more → gathers body false None (list_tokens a more m ++ rest) ≡ K (body ++ a ∷ more)
 list_read m rest K k [] a body h hs = atom_read a m rest body false h ∙ k body a
 list_read m rest K k (b ∷ bs) a body h hs =
     ap (gathers body false None) (append_assoc (atom_tokens a Comma) (list_tokens b bs m) rest)
@@ -98,7 +98,7 @@ abbrev FewHead : Option Said → Type 0
 FewHead None = Unit {0}
 FewHead (Some a) = Few a
 
-spoken_read : (a : Said) (more : List Said) (h : Option Said) → Few a → All Few more → FewHead h → gathered (closing (a ∷ more) h) ≡ Some (record { body = a ∷ more; head = h })
+spoken_read : (a : Said) (more : List Said) (h : Option Said) → Few a → AllByRecursion Few more → FewHead h → gathered (closing (a ∷ more) h) ≡ Some (record { body = a ∷ more; head = h })
 spoken_read a more None f fs g = ap gathered (sym (append-nil (list_tokens a more End))) ∙ list_read End [] (λ l. Some (record { body = l; head = None })) (λ body b. refl) more a [] f fs
 spoken_read a more (Some h) f fs g =
     list_read Semicolon (atom_tokens h End) (λ l. gathers l true None (atom_tokens h End)) (λ body b. refl) more a [] f fs
@@ -144,11 +144,11 @@ taken (Some b) w a e =
 
 record State (body : List Said) (past : Bool) : Type 0 where
   some : past ≡ true → 0 < length body
-  few : All Few body
+  few : AllByRecursion Few body
 
 record Spells (s : Spoken) (ts : List Token) : Type 0 where
   some : 0 < length s.body
-  few : All Few s.body
+  few : AllByRecursion Few s.body
   head : FewHead s.head
   tokens : spoken_tokens s ≡ ts
 
@@ -200,42 +200,42 @@ gathered_written ts s e = gather_written ts [] false None s (record { some = λ 
 
 -- small numbers in the words and in the atoms
 
-all_parts : {X : Type 0} (P : X → Type 0) (xs ys : List X) → All P (xs ++ ys) → All P xs × All P ys
+all_parts : {X : Type 0} (P : X → Type 0) (xs ys : List X) → AllByRecursion P (xs ++ ys) → AllByRecursion P xs × AllByRecursion P ys
 all_parts P [] ys h = (tt, h)
 all_parts P (x ∷ xs) ys h = let r = all_parts P xs ys h.1 in ((h.0, r.0), r.1)
 
-run_small : (w : RawTerm) (ws : List RawTerm) (m : Mark) → SmallTerm w → All SmallTerm ws → All Small (run w ws m)
+run_small : (w : RawTerm) (ws : List RawTerm) (m : Mark) → SmallTerm w → AllByRecursion SmallTerm ws → AllByRecursion Small (run w ws m)
 run_small w [] m h hs = (h, tt)
 run_small w (v ∷ vs) m h hs = (h, run_small v vs m hs.0 hs.1)
 
-small_run : (w : RawTerm) (ws : List RawTerm) (m : Mark) → All Small (run w ws m) → SmallTerm w × All SmallTerm ws
+small_run : (w : RawTerm) (ws : List RawTerm) (m : Mark) → AllByRecursion Small (run w ws m) → SmallTerm w × AllByRecursion SmallTerm ws
 small_run w [] m h = (h.0, tt)
 small_run w (v ∷ vs) m h = let r = small_run v vs m h.1 in (h.0, (r.0, r.1))
 
-list_small : (a : Said) (more : List Said) (m : Mark) → GoodAtom a → All GoodAtom more → All Small (list_tokens a more m)
+list_small : (a : Said) (more : List Said) (m : Mark) → GoodAtom a → AllByRecursion GoodAtom more → AllByRecursion Small (list_tokens a more m)
 list_small a [] m h hs = run_small _ a.terms m h.predicate h.terms
 list_small a (b ∷ bs) m h hs = All-append Small (atom_tokens a Comma) (list_tokens b bs m) (run_small _ a.terms Comma h.predicate h.terms) (list_small b bs m hs.0 hs.1)
 
-small_atom : (a : Said) (m : Mark) → Few a → All Small (atom_tokens a m) → GoodAtom a
+small_atom : (a : Said) (m : Mark) → Few a → AllByRecursion Small (atom_tokens a m) → GoodAtom a
 small_atom a m f h = let r = small_run (bare a.predicate) a.terms m h in record { predicate = r.0; terms = r.1; few = f }
 
-small_list : (a : Said) (more : List Said) (m : Mark) → Few a → All Few more → All Small (list_tokens a more m) → GoodAtom a × All GoodAtom more
+small_list : (a : Said) (more : List Said) (m : Mark) → Few a → AllByRecursion Few more → AllByRecursion Small (list_tokens a more m) → GoodAtom a × AllByRecursion GoodAtom more
 small_list a [] m f fs h = (small_atom a m f h, tt)
 small_list a (b ∷ bs) m f fs h =
     let r = all_parts Small (atom_tokens a Comma) (list_tokens b bs m) h in
     (small_atom a Comma f r.0, small_list b bs m fs.0 fs.1 r.1)
 
-few_from : (xs : List Said) → All GoodAtom xs → All Few xs
+few_from : (xs : List Said) → AllByRecursion GoodAtom xs → AllByRecursion Few xs
 few_from xs h = All-weaker GoodAtom Few (λ a g. g.few) xs h
 
 -- the two together, for a line
 
-spoken_read_line : (line : List ℕ) (a : Said) (more : List Said) (h : Option Said) → GoodAtom a → All GoodAtom more → GoodHead h → spoken_text (record { body = a ∷ more; head = h }) ≡ line → spoken_of line ≡ Some (record { body = a ∷ more; head = h })
+spoken_read_line : (line : List ℕ) (a : Said) (more : List Said) (h : Option Said) → GoodAtom a → AllByRecursion GoodAtom more → GoodHead h → spoken_text (record { body = a ∷ more; head = h }) ≡ line → spoken_of line ≡ Some (record { body = a ∷ more; head = h })
 spoken_read_line line a more h g gs gh e =
     ap (bound gathered) (tokens_read line (closing (a ∷ more) h) (small h gh) (spoken_text_lem a more h ∙ ap (λ l. l ++ 10 ∷ []) e))
     ∙ spoken_read a more h g.few (few_from more gs) (few_head h gh)
   where
-    small : (h : Option Said) → GoodHead h → All Small (closing (a ∷ more) h)
+    small : (h : Option Said) → GoodHead h → AllByRecursion Small (closing (a ∷ more) h)
     small None k = list_small a more End g gs
     small (Some x) k = All-append Small (list_tokens a more Semicolon) (atom_tokens x End) (list_small a more Semicolon g gs) (run_small _ x.terms End k.predicate k.terms)
 
@@ -246,17 +246,17 @@ spoken_read_line line a more h g gs gh e =
 spoken_complete : (s : Spoken) → GoodSpoken s → spoken_of (spoken_text s) ≡ Some s
 spoken_complete s g = cases s.body s.head g.some g.body g.head
   where
-    cases : (body : List Said) (h : Option Said) → 0 < length body → All GoodAtom body → GoodHead h → spoken_of (spoken_text (record { body = body; head = h })) ≡ Some (record { body = body; head = h })
+    cases : (body : List Said) (h : Option Said) → 0 < length body → AllByRecursion GoodAtom body → GoodHead h → spoken_of (spoken_text (record { body = body; head = h })) ≡ Some (record { body = body; head = h })
     cases [] h l gs gh = absurd (omega arith)
     cases (a ∷ more) h l gs gh = spoken_read_line _ a more h gs.0 gs.1 gh refl
 
-good_head : (a : Said) (more : List Said) (h : Option Said) → Few a → All Few more → FewHead h → All Small (closing (a ∷ more) h) → (GoodAtom a × All GoodAtom more) × GoodHead h
+good_head : (a : Said) (more : List Said) (h : Option Said) → Few a → AllByRecursion Few more → FewHead h → AllByRecursion Small (closing (a ∷ more) h) → (GoodAtom a × AllByRecursion GoodAtom more) × GoodHead h
 good_head a more None f fs g h = (small_list a more End f fs h, tt)
 good_head a more (Some x) f fs g h =
     let r = all_parts Small (list_tokens a more Semicolon) (atom_tokens x End) h in
     (small_list a more Semicolon f fs r.0, small_atom x End g r.1)
 
-written_line : (line : List ℕ) (body : List Said) (h : Option Said) → Spells (record { body = body; head = h }) (closing body h) → All Small (closing body h) → tokens_text (closing body h) ≡ line ++ 10 ∷ [] → GoodSpoken (record { body = body; head = h }) × (spoken_text (record { body = body; head = h }) ≡ line)
+written_line : (line : List ℕ) (body : List Said) (h : Option Said) → Spells (record { body = body; head = h }) (closing body h) → AllByRecursion Small (closing body h) → tokens_text (closing body h) ≡ line ++ 10 ∷ [] → GoodSpoken (record { body = body; head = h }) × (spoken_text (record { body = body; head = h }) ≡ line)
 written_line line [] h sp small e = absurd (omega (arith, sp.some))
 written_line line (a ∷ more) h sp small e =
     let g = good_head a more h sp.few.0 sp.few.1 sp.head small in
@@ -271,7 +271,7 @@ spoken_sound line s e = cases (tokens_of line) refl e
         let w = tokens_written line ts k in
         let sp = gathered_written ts s h in
         let q : spoken_tokens s ≡ ts = sp.tokens in
-        written_line line s.body s.head (record { some = sp.some; few = sp.few; head = sp.head; tokens = refl }) (subst (All Small) (sym q) w.0) (ap tokens_text q ∙ w.1)
+        written_line line s.body s.head (record { some = sp.some; few = sp.few; head = sp.head; tokens = refl }) (subst (AllByRecursion Small) (sym q) w.0) (ap tokens_text q ∙ w.1)
 
 pub spoken_inverse : Inverse GoodSpoken spoken_text spoken_of
 spoken_inverse = record { sound = spoken_sound; complete = spoken_complete }

@@ -1,6 +1,6 @@
 -- An atom as it is written.
 use Rattle.std.specs.Prelude.{ℕ, ◌^◌, ◌<◌, ◌≤◌, cond, List, [], ◌∷◌, ◌++◌, length, take, Some, None, decimal, Option, nat_lt}
-use Rattle.std.specs.List.{flat_map, AllByRecursion as All}
+use Rattle.std.specs.List.{flat_map, AllByRecursion}
 use Rattle.short_rows.specs.Rows.{listed_or_none}
 use Rattle.reading.specs.declared.raw.RawAtom.{RawAtom}
 use Rattle.reading.specs.declared.raw.RawTerm.{RawTerm}
@@ -31,7 +31,7 @@ SmallTerm t = number_of t < 10 ^ 7
 -- numbers of at most seven digits, at most four terms
 pub record GoodAtom (a : Said) : Type 0 where
   pub predicate : a.predicate < 10 ^ 7
-  pub terms : All SmallTerm a.terms
+  pub terms : AllByRecursion SmallTerm a.terms
   pub few : length a.terms ≤ 4
 
 -- how an atom grows by a word

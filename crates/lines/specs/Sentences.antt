@@ -1,6 +1,6 @@
 -- Atoms parted by commas, and after a semicolon perhaps one more.
 use Rattle.std.specs.Prelude.{ℕ, ◌<◌, Bool, true, false, cond, List, [], ◌∷◌, ◌++◌, map, length, Some, None, vec_items, Option}
-use Rattle.std.specs.List.{flat_map, AllByRecursion as All}
+use Rattle.std.specs.List.{flat_map, AllByRecursion}
 use Rattle.std.specs.Option.{option_map}
 use Rattle.words.specs.declared.word.Mark.{Mark}
 use Rattle.words.specs.declared.word.Mark.TheVariants.{Space, Comma, Semicolon, End}
@@ -35,7 +35,7 @@ GoodHead (Some a) = GoodAtom a
 
 pub record GoodSpoken (s : Spoken) : Type 0 where
   pub some : 0 < length s.body
-  pub body : All GoodAtom s.body
+  pub body : AllByRecursion GoodAtom s.body
   pub head : GoodHead s.head
 
 -- how it is gathered from words

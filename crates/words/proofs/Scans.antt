@@ -1,6 +1,6 @@
 -- Scanning is the inverse of writing.
 use Rattle.std.proofs.Common.{◌≡◌, ℕ, ◌+◌, ◌-◌, ◌*◌, ◌/◌, ◌%◌, ◌^◌, ◌<◌, ◌≤◌, true, ◌&&◌, eqb, ltb, leb, List, [], ◌∷◌, ◌++◌, length, get_or, drop, Some, None, decimal, Option, sym, refl, ap, ◌∙◌, subst, append_assoc, append-nil, arith}
-use Rattle.std.specs.List.{AllByRecursion as All}
+use Rattle.std.specs.List.{AllByRecursion}
 use Rattle.std.proofs.ByRecursion.{All-push}
 use Rattle.std.proofs.lemmas.List.{at_drop_more, at_drop_all}
 use Rattle.std.proofs.lemmas.Fmt.{decimal_by_steps, decimal_digit, decimal_step}
@@ -82,7 +82,7 @@ word_read (raw.Constant n) m out rest h = number_read Constant n m out rest h
 word_read (raw.Variable n) m out rest h = number_read Variable n m out rest h
 word_read (raw.Null n) m out rest h = number_read Null n m out rest h
 
-written_read : (ts : List Token) (out : List Token) → All Small ts → scan out BetweenWords (tokens_text ts) ≡ Some (out ++ ts)
+written_read : (ts : List Token) (out : List Token) → AllByRecursion Small ts → scan out BetweenWords (tokens_text ts) ≡ Some (out ++ ts)
 written_read [] out h = ap Some (sym (append-nil out))
 written_read (t ∷ ts) out h =
     word_read t.term t.mark out (tokens_text ts) h.0
@@ -153,12 +153,12 @@ pub no_none : {X : Type 0} {P : Type 0} (x : X) → None ≡ Some x → P
 no_none x e = absurd (let z : ◌≡◌ {A = ℕ} 0 1 = cc in omega arith)
 
 abbrev Written : List Token → List Token → List ℕ → Type 0
-Written ts out bs = All Small ts × (tokens_text ts ≡ tokens_text out ++ bs)
+Written ts out bs = AllByRecursion Small ts × (tokens_text ts ≡ tokens_text out ++ bs)
 
 abbrev From : List ℕ → Type 0
-From bs = (out : List Token) (s : State) (ts : List Token) → All Small out → Sound s → scan out s bs ≡ Some ts → Written ts out (begun s ++ bs)
+From bs = (out : List Token) (s : State) (ts : List Token) → AllByRecursion Small out → Sound s → scan out s bs ≡ Some ts → Written ts out (begun s ++ bs)
 
-read_step : (bs : List ℕ) → From bs → (b : ℕ) (out : List Token) (s : State) (ts : List Token) (x : Step) → All Small out → Steps s b x → by_step (λ t. scan out t bs) (λ w. scan (out ++ w ∷ []) BetweenWords bs) None x ≡ Some ts → Written ts out (begun s ++ b ∷ bs)
+read_step : (bs : List ℕ) → From bs → (b : ℕ) (out : List Token) (s : State) (ts : List Token) (x : Step) → AllByRecursion Small out → Steps s b x → by_step (λ t. scan out t bs) (λ w. scan (out ++ w ∷ []) BetweenWords bs) None x ≡ Some ts → Written ts out (begun s ++ b ∷ bs)
 read_step bs rest b out s ts (Go t) small h e =
     let ih = rest out t ts small h.0 e in
     (ih.0, ih.1 ∙ ap (λ l. tokens_text out ++ l) (ap (λ l. l ++ bs) h.1 ∙ append_assoc (begun s) (b ∷ []) bs))
@@ -169,21 +169,21 @@ read_step bs rest b out s ts (Ends w) small h e =
 read_step bs rest b out s ts Refused small h e = no_none ts e
 
 read_written : (bs : List ℕ) → From bs
-read_written [] out BetweenWords ts small sound e = let p : out ≡ ts = cc in (subst (All Small) p small, ap tokens_text (sym p) ∙ sym (append-nil (tokens_text out)))
+read_written [] out BetweenWords ts small sound e = let p : out ≡ ts = cc in (subst (AllByRecursion Small) p small, ap tokens_text (sym p) ∙ sym (append-nil (tokens_text out)))
 read_written [] out AfterV ts small sound e = no_none ts e
 read_written [] out AfterN ts small sound e = no_none ts e
 read_written [] out (InNumber k n) ts small sound e = no_none ts e
 read_written (b ∷ bs) out s ts small sound e = read_step bs (read_written bs) b out s ts (step_of s b) small (steps s b sound) e
 
 -- the two together, for a line that byte 10 ends
-pub tokens_written : (line : List ℕ) (ts : List Token) → tokens_of line ≡ Some ts → All Small ts × (tokens_text ts ≡ line ++ 10 ∷ [])
+pub tokens_written : (line : List ℕ) (ts : List Token) → tokens_of line ≡ Some ts → AllByRecursion Small ts × (tokens_text ts ≡ line ++ 10 ∷ [])
 tokens_written line ts e = read_written (line ++ 10 ∷ []) [] BetweenWords ts tt tt e
 
-pub tokens_read : (line : List ℕ) (ts : List Token) → All Small ts → tokens_text ts ≡ line ++ 10 ∷ [] → tokens_of line ≡ Some ts
+pub tokens_read : (line : List ℕ) (ts : List Token) → AllByRecursion Small ts → tokens_text ts ≡ line ++ 10 ∷ [] → tokens_of line ≡ Some ts
 tokens_read line ts small e = ap (scan [] BetweenWords) (sym e) ∙ written_read ts [] small
 
 -- so what is found reads the line
-pub tokens_known : (line : List ℕ) (o : Option (List Token)) → o ≡ tokens_of line → Reads (All Small) tokens_text (line ++ 10 ∷ []) o
+pub tokens_known : (line : List ℕ) (o : Option (List Token)) → o ≡ tokens_of line → Reads (AllByRecursion Small) tokens_text (line ++ 10 ∷ []) o
 tokens_known line (Some ts) e = tokens_written line ts (sym e)
 tokens_known line None e = λ ts small text. no_none ts (e ∙ tokens_read line ts small text)
 

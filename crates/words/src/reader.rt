@@ -1,7 +1,7 @@
 //! Reading the words of a line.
 ghost use Rattle.std.specs.Prelude.{◌≡◌, [], ◌∷◌, ◌++◌, IfOk, vec_items};
 ghost use Rattle.std.specs.Option.{option_map};
-ghost use Rattle.std.specs.List.{AllByRecursion as All};
+ghost use Rattle.std.specs.List.{AllByRecursion};
 ghost use Rattle.words.specs.Reads.{Reads};
 ghost use Rattle.words.specs.Words.{term_of, tokens_text, Small, step_of, tokens_of};
 
@@ -54,7 +54,7 @@ fn step(state: State, byte: u8) -> Step
 /// The words of a line that byte 10 ends, each with its mark; none where it breaks the form.
 pub fn tokens(heap: Global, line: &[u8]) -> Result<Option<Vec<Token>>, AllocError>
     ensures same { IfOk result (λ o. option_map vec_items o ≡ tokens_of line.now) }
-    ensures reads { IfOk result (λ o. Reads (All Small) tokens_text (line.now ++ 10 ∷ []) (option_map vec_items o)) }
+    ensures reads { IfOk result (λ o. Reads (AllByRecursion Small) tokens_text (line.now ++ 10 ∷ []) (option_map vec_items o)) }
 {
     let mut out = Vec::new(heap);
     let mut state = State::BetweenWords;
