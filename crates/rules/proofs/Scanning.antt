@@ -1,8 +1,9 @@
 -- The steps of the loops that look for variables.
-use Rattle.std.proofs.Common.{◌≡◌, ℕ, zero, suc, ◌+◌, ◌<◌, ◌≤◌, Bool, true, false, cond, ◌&&◌, List, [], ◌∷◌, map, length, drop, Some, None, Option, sym, refl, ap, ◌∙◌, subst, arith}
+use Rattle.std.proofs.Common.{◌≡◌, ℕ, zero, suc, ◌+◌, ◌<◌, ◌≤◌, Bool, true, false, cond, ◌&&◌, List, [], ◌∷◌, map, length, drop, get_or, Some, None, Option, sym, refl, ap, ◌∙◌, subst, arith}
 use Rattle.std.specs.List.{slice_get}
 use Rattle.std.specs.Option.{option_map}
 use Rattle.std.proofs.lemmas.List.{length-map}
+use Rattle.std.proofs.lemmas.Option.{slice_get_read}
 use Rattle.std.proofs.lemmas.Bool.{eqb-true, eq-eqb, both_ways}
 use Rattle.semantics.specs.Computed.{covers, covers_all, guard, guard_from}
 use Rattle.semantics.specs.Subject.{Slot, con, var, Pattern}
@@ -12,6 +13,7 @@ use Rattle.atoms.specs.Meaning.{pattern_meant}
 use Rattle.terms.specs.Meaning.{slot_meant}
 use Rattle.atoms.specs.declared.atom.Atom.{Atom}
 use Rattle.terms.specs.declared.term.PatternTerm.{PatternTerm}
+use Rattle.rules.specs.declared.rule.Rule.{Rule}
 use Rattle.declarations.specs.Bodies.{patterns_listed, patterns_meant}
 use Rattle.rules.specs.Rules.{FindsGuard}
 use Rattle.declarations.specs.declared.patterns.Patterns.{Patterns}
@@ -103,3 +105,14 @@ guard_below body k e =
 pub finds_guard : (body : Patterns) (o : Option ℕ) → o ≡ guard (patterns_meant body) → FindsGuard body o
 finds_guard body None e = no_guard (patterns_meant body) (sym e)
 finds_guard body (Some k) e = (at_guard_is (patterns_meant body) k (sym e), guards (patterns_meant body) k (sym e))
+
+-- so it stands in a rule's body
+pub guard_within : (r : Rule) → r.guard < length (patterns_listed r.body)
+guard_within r = (guard_below r.body r.guard r.guarded).0
+
+pub guard_small : (r : Rule) → r.guard < 4
+guard_small r = (guard_below r.body r.guard r.guarded).1
+
+-- what is read there from the body's patterns is the guard's pattern
+pub guard_read : (r : Rule) (ps : List (Atom PatternTerm)) (p : Atom PatternTerm) → p ≡ get_or ps r.guard p → ps ≡ patterns_listed r.body → slice_get (patterns_listed r.body) r.guard ≡ Some p
+guard_read r ps p is e = slice_get_read _ _ r.guard p refl (guard_within r) (is ∙ ap (λ xs. get_or xs r.guard p) e)

@@ -52,6 +52,7 @@ impl Rule {
         self.guard
     }
 
+    #[tactic(auto, using(crate::proofs::Scanning::guard_within, crate::proofs::Scanning::guard_small, crate::proofs::Scanning::guard_read))]
     pub fn guard_pattern(&self) -> &Pattern
         ensures { slice_get (patterns_listed self.now.body) self.now.guard ≡ Some result.now }
     {
