@@ -3,6 +3,7 @@
 
 #[cfg(test)]
 mod flat;
+#[cfg(test)]
 mod made;
 #[cfg(test)]
 mod overlay;
