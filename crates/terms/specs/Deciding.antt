@@ -1,5 +1,5 @@
 -- The equality of terms decides whether they are the same, and what decides that is an equivalence.
-use Rattle.std.proofs.Common.{◌≡◌, ℕ, Bool, Decides, ◌==◌, sym, ap, ◌∙◌}
+use Rattle.std.proofs.Common.{◌≡◌, ℕ, Bool, Decides, ◌==◌, sym, ap, ◌∙◌, subst}
 use Rattle.std.proofs.lemmas.Bool.{eqb-true, eq-eqb}
 use Rattle.std.specs.Cmp.{IsPartialEquivalence, both_ways}
 use Rattle.terms.specs.Equal.{constant_eq, null_eq, variable_eq, predicate_eq, term_eq, pattern_term_eq}
@@ -18,6 +18,10 @@ decides_per E d = record {
   symm = λ x y. both_ways (E x y) (E y x) (λ p. (d y x).1 (sym ((d x y).0 p))) (λ p. (d x y).1 (sym ((d y x).0 p)));
   trans = λ x y z p q. (d x z).1 ((d x y).0 p ∙ (d y z).0 q);
 }
+
+-- an answer that is what such a test gives decides it
+pub answer_decides : {K : Type 0} (E : K → K → Bool) → ((x y : K) → Decides (E x y) (x ≡ y)) → (x y : K) (r : Bool) → r ≡ E x y → Decides r (x ≡ y)
+answer_decides E d x y r e = subst (λ b. Decides b (x ≡ y)) (sym e) (d x y)
 
 -- where equal numbers make two values the same, comparing the numbers decides it
 by_number : {K : Type 0} (f : K → ℕ) → ((x y : K) → f x ≡ f y → x ≡ y) → (x y : K) → Decides (f y == f x) (x ≡ y)

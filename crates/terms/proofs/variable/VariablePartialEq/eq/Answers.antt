@@ -1,8 +1,6 @@
-use Rattle.std.proofs.Common.{sym, ap, ◌∙◌}
-use Rattle.std.proofs.lemmas.Bool.{eqb-true, eq-eqb}
-use Rattle.terms.specs.declared.variable.Variable.{Variable}
-use Rattle.terms.specs.Same.{same_variable}
+use Rattle.terms.specs.Equal.{variable_eq}
+use Rattle.terms.specs.Deciding.{answer_decides, variable_decides}
 use Rattle.terms.proofs.variable.VariablePartialEq.eq.Goals as goal
 
 pub returns-clause-same : goal.returns-clause-same
-returns-clause-same c = (λ t. same_variable c.args.self.now c.args.other.now (sym (eqb-true _ _ (sym c.agrees.ensures ∙ t))), λ e. c.agrees.ensures ∙ eq-eqb _ _ (sym (ap (λ (x : Variable). x.index) e)))
+returns-clause-same c = answer_decides variable_eq variable_decides c.args.self.now c.args.other.now c.agrees.result c.agrees.ensures
