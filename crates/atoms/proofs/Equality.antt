@@ -5,7 +5,7 @@ use Rattle.terms.specs.Equal.{constant_eq, term_eq, pattern_term_eq}
 use Rattle.terms.specs.Deciding.{answer_decides, constant_decides, term_decides, pattern_term_decides}
 use Rattle.terms.specs.declared.constant.Constant.{Constant}
 use Rattle.terms.specs.declared.term.Term.{Term}
-use Rattle.terms.specs.declared.term.PatternTerm.{PatternTerm}
+use Rattle.terms.specs.declared.pattern_term.PatternTerm.{PatternTerm}
 
 pub constants_decided : Deciding {T = Constant} (λ x y r. r ≡ constant_eq x y)
 constants_decided = answer_decides constant_eq constant_decides

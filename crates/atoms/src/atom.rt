@@ -11,7 +11,8 @@ ghost use lib.Pointwise.{pointwise};
 use short_rows::row::Row;
 use terms::constant::Constant;
 use terms::predicate::Predicate;
-use terms::term::{PatternTerm, Term};
+use terms::pattern_term::PatternTerm;
+use terms::term::Term;
 
 /// A predicate with one to four terms of one kind.
 #[derive(Clone, Copy)]

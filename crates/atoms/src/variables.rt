@@ -5,7 +5,7 @@ ghost use Rattle.atoms.specs.Meaning.{pattern_meant};
 
 use crate::atom::Atom;
 use short_rows::row::Row;
-use terms::term::PatternTerm;
+use terms::pattern_term::PatternTerm;
 use terms::variable::Variable;
 
 impl Atom<PatternTerm> {

@@ -8,7 +8,7 @@ use Rattle.semantics.specs.Subject.{Slot, con, var, Binding, Pattern, numbered}
 use Rattle.semantics.proofs.Fitting.{none_some}
 use Rattle.chase.specs.Chase.{fresh, fresh_slot, fresh_var}
 use Rattle.terms.specs.declared.term.Term.{Term}
-use Rattle.terms.specs.declared.term.PatternTerm.{PatternTerm}
+use Rattle.terms.specs.declared.pattern_term.PatternTerm.{PatternTerm}
 use Rattle.atoms.specs.Meaning.{pattern_meant}
 use Rattle.short_rows.specs.Rows.{listed}
 use Rattle.atoms.specs.declared.atom.Atom.{Atom}

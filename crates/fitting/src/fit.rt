@@ -11,7 +11,8 @@ ghost use Rattle.std.specs.Prelude.{◌≡◌, map};
 use crate::binding::Binding;
 use atoms::atom::{GroundAtom, Pattern};
 use short_rows::row::Row;
-use terms::term::{PatternTerm, Term};
+use terms::pattern_term::PatternTerm;
+use terms::term::Term;
 
 /// The binding, extended so that the slot is the term.
 fn fit_slot(binding: Binding, slot: PatternTerm, term: Term) -> Option<Binding>

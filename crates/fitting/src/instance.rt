@@ -11,7 +11,8 @@ ghost use Rattle.std.specs.Prelude.{map};
 use crate::binding::Binding;
 use atoms::atom::{Atom, GroundAtom, Pattern};
 use short_rows::row::Row;
-use terms::term::{PatternTerm, Term};
+use terms::pattern_term::PatternTerm;
+use terms::term::Term;
 
 /// The term that the slot is under the binding, if there is one.
 fn bound_term(binding: Binding, slot: PatternTerm) -> Option<Term>

@@ -9,7 +9,7 @@ use Rattle.semantics.proofs.Placing.{Sofar, one_more, stops}
 use Rattle.atoms.specs.Meaning.{pattern_meant}
 use Rattle.atoms.specs.declared.atom.Atom.{Atom}
 use Rattle.refusals.specs.declared.refusal.Refusal.{Refusal}
-use Rattle.terms.specs.declared.term.PatternTerm.{PatternTerm}
+use Rattle.terms.specs.declared.pattern_term.PatternTerm.{PatternTerm}
 use Rattle.terms.specs.declared.term.Term.{Term}
 use Rattle.fitting.specs.Bindings.{bound_or}
 use Rattle.matching.specs.Places.{NotPlaced, past, unfit, NotFitted, place_past, place_unfit, FittedAt, Placed}

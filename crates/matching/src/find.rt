@@ -14,7 +14,7 @@ use fitting::binding::{Binding, unbound};
 use fitting::fit::fit;
 use shelves::stock::Stock;
 use short_rows::row::Row;
-use terms::term::PatternTerm;
+use terms::pattern_term::PatternTerm;
 use terms::variable::Variable;
 
 /// Whether the variable stands in one of the patterns.

@@ -6,8 +6,8 @@ use Rattle.semantics.specs.Subject.{Pattern, numbered}
 use Rattle.chase.specs.Chase.{Plain, PlainAll, PlainRule}
 use Rattle.chase.specs.Theorems.{Guarded}
 use Rattle.terms.specs.Meaning.{slot_meant}
-use Rattle.terms.specs.declared.term.PatternTerm.{PatternTerm}
-use Rattle.terms.specs.declared.term.PatternTerm.TheVariants as slot
+use Rattle.terms.specs.declared.pattern_term.PatternTerm.{PatternTerm}
+use Rattle.terms.specs.declared.pattern_term.PatternTerm.TheVariants as slot
 use Rattle.atoms.specs.Meaning.{pattern_meant}
 use Rattle.short_rows.specs.Rows.{listed}
 use Rattle.atoms.specs.declared.atom.Atom.{Atom}

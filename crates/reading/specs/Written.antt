@@ -6,8 +6,8 @@ use Rattle.short_rows.specs.declared.row.Row.{Row}
 use Rattle.terms.specs.declared.constant.Constant.{Constant}
 use Rattle.terms.specs.declared.term.Term.{Term}
 use Rattle.terms.specs.declared.term.Term.TheVariants as ground_term
-use Rattle.terms.specs.declared.term.PatternTerm.{PatternTerm}
-use Rattle.terms.specs.declared.term.PatternTerm.TheVariants as slot
+use Rattle.terms.specs.declared.pattern_term.PatternTerm.{PatternTerm}
+use Rattle.terms.specs.declared.pattern_term.PatternTerm.TheVariants as slot
 use Rattle.reading.specs.declared.raw.RawTerm.{RawTerm}
 use Rattle.reading.specs.declared.raw.RawTerm.TheVariants as raw
 

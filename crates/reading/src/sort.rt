@@ -8,7 +8,8 @@ use crate::raw::RawTerm;
 use short_rows::row::Row;
 use terms::constant::Constant;
 use terms::null::Null;
-use terms::term::{PatternTerm, Term};
+use terms::pattern_term::PatternTerm;
+use terms::term::Term;
 use terms::variable::Variable;
 
 /// What may stand as a term: of facts, of ground atoms or of patterns.

@@ -3,7 +3,7 @@ use Rattle.std.proofs.lemmas.Bool.{false≢true}
 use Rattle.semantics.specs.Subject.{Binding}
 use Rattle.semantics.specs.Computed.{fit_slot}
 use Rattle.terms.specs.Meaning.{slot_meant}
-use Rattle.terms.specs.declared.term.PatternTerm.{PatternTerm}
+use Rattle.terms.specs.declared.pattern_term.PatternTerm.{PatternTerm}
 use Rattle.fitting.proofs.Slots.{constant_differs, variable_free, variable_differs}
 use Rattle.fitting.proofs.fit.fit_slot.Goals as goal
 

@@ -3,7 +3,7 @@ use Rattle.std.proofs.lemmas.List.{at_drop_more, at_drop_all}
 use Rattle.semantics.specs.Subject.{in_patterns, in_slots}
 use Rattle.atoms.specs.Meaning.{pattern_meant}
 use Rattle.atoms.specs.declared.atom.Atom.{Atom}
-use Rattle.terms.specs.declared.term.PatternTerm.{PatternTerm}
+use Rattle.terms.specs.declared.pattern_term.PatternTerm.{PatternTerm}
 use Rattle.matching.specs.Searches.{patterns_meant}
 use Rattle.matching.proofs.find.stands_in.Goals as goal
 
