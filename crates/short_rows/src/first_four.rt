@@ -1,5 +1,5 @@
 //! The first four of a kind.
-ghost use Rattle.std.specs.Prelude.{◌≡◌, length, min, take};
+ghost use Rattle.std.specs.Prelude.{MatchOption, [], ◌≡◌, length, min, take};
 
 use crate::row::Row;
 use std::alloc::AllocError;
@@ -55,6 +55,14 @@ impl<T: Copy> FirstFour<T> {
         ensures { result ≡ self.now.count }
     {
         self.count
+    }
+
+    /// The first four, if there are any.
+    pub fn first(&self) -> Option<Row<T>>
+        ensures row { MatchOption result (self.now.first ≡ []) (λ row. row ≡ self.now.first) }
+        ensures kept { length self.now.first ≡ min self.now.count 4 }
+    {
+        self.first
     }
 
     /// The first four.

@@ -3,8 +3,9 @@ ghost use Rattle.short_rows.specs.Tries.{Each, TriesFrom};
 ghost use Rattle.std.specs.Cmp.Lexicographic.{lists_equiv, lists_per};
 ghost use Rattle.std.specs.List.{slice_get};
 ghost use Rattle.std.specs.Prelude.{◌≡◌, ◌≤◌, ◌<◌, [], ◌∷◌, ◌++◌, length, MatchOption, ◌⊎◌, ℕ};
-ghost use lib.Pointwise.{pointwise};
+ghost use lib.Pointwise.{pointwise, pointwise_decides};
 
+use exact::equality::ExactEq;
 use std::marker::Model;
 
 /// The same, by how many they are.
@@ -155,4 +156,8 @@ impl<T: PartialEq> PartialEq for Row<T> {
 
 impl<T: Eq> Eq for Row<T> {
     ghost laws = { lists_equiv T.Eq.laws };
+}
+
+impl<T: ExactEq> ExactEq for Row<T> {
+    ghost exact = { pointwise_decides T.ExactEq.exact };
 }
