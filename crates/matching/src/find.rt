@@ -7,7 +7,6 @@ ghost use Rattle.semantics.specs.Subject.{On, Searched, in_patterns};
 ghost use Rattle.std.specs.Option.{option_map};
 ghost use Rattle.atoms.specs.Meaning.{pattern_meant};
 ghost use Rattle.terms.specs.Meaning.{slot_meant};
-ghost use Rattle.short_rows.specs.Rows.{listed};
 
 use atoms::atom::Pattern;
 use fitting::binding::{Binding, unbound};
