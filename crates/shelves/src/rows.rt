@@ -5,6 +5,7 @@ ghost use Rattle.shelves.specs.Rows.{front};
 
 use crate::record::Record;
 use atoms::atom::GroundAtom;
+use exact::equality::same;
 
 /// How many records count, where `used` are to.
 fn limit(rows: &[Record], used: usize) -> usize
@@ -17,7 +18,7 @@ fn limit(rows: &[Record], used: usize) -> usize
 fn holds(row: &Record, atom: &GroundAtom) -> bool
     ensures { Decides result (row.now.atom ≡ atom.now) }
 {
-    row.atom == *atom
+    same(&row.atom, atom)
 }
 
 /// Whether the atom stands in one of the first records.
