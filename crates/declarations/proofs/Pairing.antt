@@ -39,3 +39,9 @@ module _ (arities : List ℕ) (R : ℕ → RawAtom → Result (Atom PatternTerm)
       let s = one_refused 0 ws e t in
       let same : 0 + s.0 ≡ s.0 = omega arith in
       refused_atom few (record { index = s.0; atom = s.1; there = s.2; before = s.3; refused = subst (λ k. AtomRefused slot_written arities k s.1 e) same s.4 })
+
+-- what corresponds to patterns is fine
+pub all_fine : (arities : List ℕ) (raws : List RawAtom) (ps : List (Atom PatternTerm)) → Pairwise (TakenAs arities) raws ps → AllByRecursion (Fine arities) raws
+all_fine arities [] ps h = tt
+all_fine arities (r ∷ rs) [] h = absurd h
+all_fine arities (r ∷ rs) (p ∷ ps) h = ((p, h.0), all_fine arities rs ps h.1)
