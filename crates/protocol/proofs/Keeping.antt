@@ -6,7 +6,7 @@ use Rattle.chase.specs.Chase.{IsFact, start}
 use Rattle.chase.specs.Unfit.{IsConstant, FactOf, FirstUnfit, no_fact}
 use Rattle.book.specs.Theory.{predicates_of, rules_of}
 use Rattle.book.specs.declared.book.Book.{Book}
-use Rattle.calls.specs.declared.answer.Taken.TheVariants.{Already, At}
+use Rattle.shelves.specs.declared.taken.Taken.TheVariants.{Already, At}
 use Rattle.calls.specs.declared.answer.Check.{Check}
 use Rattle.calls.specs.declared.answer.Check.TheVariants.{Shut, Derivation, Model}
 use Rattle.calls.specs.declared.event.Event.{Event}

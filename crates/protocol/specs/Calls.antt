@@ -18,8 +18,8 @@ use Rattle.chase.specs.Unfit.{FirstUnfit}
 use Rattle.chase.specs.Refuting.{Refutes, NotRefuted}
 use Rattle.calls.specs.Named.{named}
 use Rattle.calls.specs.declared.places.Places.{Places}
-use Rattle.calls.specs.declared.answer.Taken.{Taken}
-use Rattle.calls.specs.declared.answer.Taken.TheVariants.{Already, At}
+use Rattle.shelves.specs.declared.taken.Taken.{Taken}
+use Rattle.shelves.specs.declared.taken.Taken.TheVariants.{Already, At}
 use Rattle.calls.specs.declared.answer.Verdict.{Verdict}
 use Rattle.calls.specs.declared.answer.Verdict.TheVariants.{Entailed, Inconsistent, NotEntailed}
 use Rattle.calls.specs.declared.answer.Check.{Check}
