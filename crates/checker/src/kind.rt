@@ -53,7 +53,7 @@ impl Kind for Derivation {
 
     fn query(check: Check) -> Option<usize> {
         match check {
-            Check::Derivation(query) => Some(query),
+            Check::Derivation(asked) => Some(asked),
             Check::Model(_) => None,
         }
     }
@@ -76,7 +76,7 @@ impl Kind for Model {
 
     fn query(check: Check) -> Option<usize> {
         match check {
-            Check::Model(query) => Some(query),
+            Check::Model(asked) => Some(asked),
             Check::Derivation(_) => None,
         }
     }

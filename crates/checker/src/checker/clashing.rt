@@ -22,7 +22,7 @@ impl<S: Shelf> Checker<S> {
     ) -> Result<Verdict, Refusal>
         ensures { ClashJudged self.now.state slip.now constraint places result }
     {
-        let _query = self.own(slip)?;
+        self.own(slip)?;
         let patterns = self
             .constraint_of(constraint)
             .ok_or(Refusal::NoSuchNumber { number: constraint })?;

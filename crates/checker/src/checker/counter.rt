@@ -22,7 +22,7 @@ impl<S: Shelf> Checker<S> {
     fn judge_add(&self, slip: &ModelSlip, atom: &RawAtom) -> Result<GroundAtom, Refusal>
         ensures { AddJudged self.now.state slip.now atom.now result }
     {
-        let _query = self.own(slip)?;
+        self.own(slip)?;
         self.read_atom(atom)
     }
 

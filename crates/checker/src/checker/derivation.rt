@@ -17,7 +17,7 @@ impl<S: Shelf> Checker<S> {
     fn judge_use(&self, slip: &DerivationSlip, rule: usize, place: usize) -> Result<Head, Refusal>
         ensures { StepJudged self.now.state slip.now rule place result }
     {
-        let _query = self.own(slip)?;
+        self.own(slip)?;
         let found = self
             .book
             .rule(rule)

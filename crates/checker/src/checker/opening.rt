@@ -19,8 +19,7 @@ impl<S: Shelf> Checker<S> {
         if self.check.is_some() {
             return Err(Refusal::AlreadyOpen);
         }
-        let _patterns = self
-            .book
+        self.book
             .query(query)
             .ok_or(Refusal::NoSuchNumber { number: query })?;
         match first_unfit(self.pile.below(), &self.book) {
@@ -47,7 +46,7 @@ impl<S: Shelf> Checker<S> {
     {
         let owned = self.own(&slip);
         slip.spend();
-        let _query = owned?;
+        owned?;
         self.restart(None);
         Ok(())
     }

@@ -26,10 +26,10 @@ impl<S: Shelf> Checker<S> {
     pub(crate) fn own<K: Kind>(&self, slip: &Slip<K>) -> Result<usize, Refusal>
         ensures { Owns K.check_of self.now.state slip.now result }
     {
-        match self.check.and_then(|check| K::query(check)) {
-            Some(query) if slip.number() == self.number => Ok(query),
-            _ => Err(Refusal::ForeignSlip),
-        }
+        self.check
+            .and_then(|check| K::query(check))
+            .filter(|_| slip.number() == self.number)
+            .ok_or(Refusal::ForeignSlip)
     }
 
     /// The patterns of a query that is there.

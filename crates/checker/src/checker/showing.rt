@@ -20,7 +20,7 @@ impl<S: Shelf> Checker<S> {
                 places: places.count(),
             });
         }
-        let _binding = fit_places(&self.pile, patterns, places.as_slice())?;
+        fit_places(&self.pile, patterns, places.as_slice())?;
         Ok(())
     }
 }
