@@ -95,7 +95,10 @@ fn under_model<W: Candidate, S: Shelf>(
             let answer = checker.strike(own);
             (None, Event::StrikeModel { slip, answer })
         }
-        _ => (Some(own), Event::NoSlip),
+        SlipCall::Step { .. } | SlipCall::Claim(_) | SlipCall::Clash { .. } => (
+            Some(own),
+            Event::NoSlip,
+        ),
     }
 }
 

@@ -4,7 +4,8 @@ use Rattle.runs.proofs.perform.run.Given as goal
 
 -- the calls so far were made, and there is room for what the others may bring
 abbrev pub invariant-loop-call : goal.invariant-loop-call
-invariant-loop-call g l =
-    Went l.initial.checker.state (vec_items l.initial.pool) (take l.call-index l.calls) (vec_items l.initial.log) l.checker.state (vec_items l.pool) (vec_items l.log)
-    × (vec_len l.pool + (length l.calls - l.call-index) ≤ vec_capacity l.pool)
-    × (vec_len l.log + (length l.calls - l.call-index) ≤ vec_capacity l.log)
+invariant-loop-call g l = record {
+  went : Went l.initial.checker.state (vec_items l.initial.pool) (take l.call-index l.calls) (vec_items l.initial.log) l.checker.state (vec_items l.pool) (vec_items l.log);
+  slots : vec_len l.pool + (length l.calls - l.call-index) ≤ vec_capacity l.pool;
+  notes : vec_len l.log + (length l.calls - l.call-index) ≤ vec_capacity l.log;
+}
