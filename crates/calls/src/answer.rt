@@ -1,14 +1,5 @@
 //! What a checker answers.
 
-/// What became of an atom that a checker was asked to take in.
-#[derive(Clone, Copy, PartialEq, Eq, Debug)]
-pub enum Taken {
-    /// It stands there already.
-    Already,
-    /// It is new, and stands at this place now.
-    At(usize),
-}
-
 /// What an accepted certificate shows.
 #[derive(Clone, Copy, PartialEq, Eq, Debug)]
 pub enum Verdict {
@@ -34,10 +25,9 @@ pub enum Verdict {
     },
 }
 
-/// Which check is open, and of which query.
+/// A check, and the query that it is of.
 #[derive(Clone, Copy, PartialEq, Eq, Debug)]
 pub enum Check {
-    Shut,
     Derivation(usize),
     Model(usize),
 }

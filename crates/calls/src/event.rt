@@ -1,8 +1,9 @@
 //! Calls that were made, with their answers.
-use crate::answer::{Taken, Verdict};
+use crate::answer::Verdict;
 use crate::places::Places;
 use reading::raw::RawAtom;
 use refusals::refusal::Refusal;
+use shelves::taken::Taken;
 
 /// A call with its answer. A slip is told by the number that it bears.
 #[derive(Clone, Copy)]

@@ -1,15 +1,11 @@
 -- How a checker's state follows what its overlay does.
-use Rattle.std.proofs.Common.{◌≡◌, ℕ, ◌+◌, ◌-◌, ◌*◌, ◌<◌, ◌≤◌, min, Bool, true, ◌⊎◌, List, [], ◌∷◌, ◌++◌, map, length, take, Ok, Err, sym, refl, ap, ◌∙◌, subst, inl, inr, ⊎_elim, arith}
-use mathlib.Core.HLevel.{is_prop→PathP}
-use mathlib.Core.Bool.{Bool-set}
-use native.Mathlib.Bridge.{le_prop}
+use Rattle.std.proofs.Common.{◌≡◌, ℕ, ◌+◌, ◌-◌, ◌*◌, ◌<◌, ◌≤◌, min, Option, ◌⊎◌, List, [], ◌∷◌, ◌++◌, map, length, take, Ok, Err, sym, refl, ap, ◌∙◌, subst, inl, inr, ⊎_elim, arith}
 use Rattle.std.proofs.lemmas.List.{map-append, length-map}
 use Rattle.std.proofs.lemmas.Bool.{cases_lt}
 use Rattle.semantics.specs.Subject as subject
 use Rattle.atoms.specs.Meaning.{atom_meant}
 use Rattle.atoms.specs.declared.atom.Atom.{Atom}
 use Rattle.terms.specs.declared.term.Term.{Term}
-use Rattle.book.specs.Tables.{entries}
 use Rattle.book.specs.declared.book.Book.{Book}
 use Rattle.calls.specs.declared.answer.Check.{Check}
 use Rattle.matching.specs.Searches.{pile}
@@ -23,27 +19,13 @@ use Rattle.shelves.specs.declared.placed.Placed.TheVariants.{Already, Full as No
 use Rattle.steps.proofs.Standing.{has_on, on_has}
 use Rattle.protocol.specs.States.{State, Full}
 use Rattle.checker.specs.Parts.{FactPut, AtomPut}
-use Rattle.checker.specs.Shapes.{query_known, own_known}
-use Rattle.checker.specs.declared.checker.Checker.{Checker}
+use Rattle.checker.specs.Seen.{state_of}
 
 -- how many nulls are issued after a put: those that go with a new atom
 abbrev pub nulls_then : Placed → ℕ → ℕ → ℕ
 nulls_then Already m v = m
 nulls_then NoRoom m v = m
 nulls_then (At q) m v = v
-
--- what is true of every checker has one proof at most
-pub same_checker : {S : Type 0} (c d : Checker S) → c.book ≡ d.book → c.pile ≡ d.pile → c.number ≡ d.number → c.check ≡ d.check → c.nulls ≡ d.nulls → c ≡ d
-same_checker c d b p n k m = λ i. record {
-  book = b i;
-  pile = p i;
-  number = n i;
-  check = k i;
-  nulls = m i;
-  asked = is_prop→PathP (λ j. query_known (length (entries (b j).queries)) (k j) ≡ true) (λ j. Bool-set _ _) c.asked d.asked i;
-  idle = is_prop→PathP (λ j. own_known (p j).own.count (k j) ≡ true) (λ j. Bool-set _ _) c.idle d.idle i;
-  few = is_prop→PathP (λ j. m j ≤ 4 * (p j).own.count) (λ j. le_prop) c.few d.few i;
-}
 
 pub pile_push : (xs : List (Atom Term)) (a : Atom Term) → pile (xs ++ a ∷ []) ≡ pile xs ++ atom_meant a ∷ []
 pile_push xs a = map-append atom_meant xs (a ∷ [])
@@ -55,10 +37,9 @@ pile_splits list o short =
     let n = min o.own.count (1000000 - length (list o.below)) in
     (pile (front n o.own.rows), ap pile (top_is 1000000 (list o.below) o.own.count o.own.rows short fits) ∙ map-append atom_meant (list o.below) (front n o.own.rows))
 
-module _ {S : Type 0} (list : S → List (Atom Term)) (free : S → ℕ) (b : Book) (n : ℕ) (k : Check) where
-  -- the state, by its overlay and nulls
-  abbrev pub seen : Overlay S → ℕ → State
-  seen o m = record { book = b; number = n; facts = pile (list o.below); free = free o.below; pile = pile (stacked list o); added = o.own.count; nulls = m; check = k }
+module _ {S : Type 0} (list : S → List (Atom Term)) (free : S → ℕ) (b : Book) (n : ℕ) (k : Option Check) where
+  abbrev seen : Overlay S → ℕ → State
+  seen = state_of list free b n k
 
   pub fact_put : (o p : Overlay S) (m : ℕ) (a : Atom Term) (r : Placed) → length (list p.below) ≤ 1000000 → Lowers list free o a (Ok r) p → FactPut (seen o m) (atom_meant a) r (seen p m)
   fact_put o p m a Already short (none, (has, same, left), own, full) = (
@@ -120,6 +101,3 @@ module _ {S : Type 0} (list : S → List (Atom Term)) (free : S → ℕ) (b : Bo
         kept Already h = refl
         kept NoRoom h = refl
         kept (At q) h = absurd (h q refl)
-
-pub not_full : {X : Type 0} (r : Placed) (q : ℕ) → r ≡ At q → r ≡ NoRoom → X
-not_full r q e f = let z : ◌≡◌ {A = ℕ} 0 1 = cc in absurd (omega arith)

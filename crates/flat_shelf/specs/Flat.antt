@@ -1,32 +1,30 @@
 -- What a flat shelf holds.
-use Rattle.std.specs.Prelude.{List, ℕ, ◌-◌, ◌≤◌, min, length, set}
-use Rattle.std.proofs.Common.{arith, length-take}
-use Rattle.std.proofs.lemmas.List.{length-map}
+use Rattle.std.specs.Prelude.{List, ℕ, ◌-◌, ◌≤◌, min, length, slice_set, Ok, Err, Result}
+use Rattle.std.proofs.Common.{lit≤}
+use Rattle.std.proofs.Math.Nat.{le_trans}
 use Rattle.atoms.specs.declared.atom.Atom.{Atom}
 use Rattle.terms.specs.declared.term.Term.{Term}
 use Rattle.shelves.specs.Rows.{front}
 use Rattle.shelves.specs.declared.record.Record.{Record}
-use Rattle.shelves.specs.declared.placed.Placed.{Placed}
-use Rattle.shelves.specs.declared.placed.Placed.TheVariants.{Already, Full, At}
+use Rattle.shelves.specs.declared.taken.Full.{Full}
+use Rattle.shelves.specs.declared.taken.Taken.{Taken}
+use Rattle.shelves.specs.declared.taken.Taken.TheVariants.{Already, At}
+use Rattle.shelves.proofs.Fronts.{front_short}
 use Rattle.flat_shelf.specs.declared.flat.FlatShelf.{FlatShelf}
 
--- how many records count
-abbrev pub counted : FlatShelf → ℕ
-counted s = min (min s.used 4096) (length s.records.now)
-
--- the atoms of those that count
+-- the atoms of the records that are used
 abbrev pub rows : FlatShelf → List (Atom Term)
-rows s = front (counted s) s.records.now
+rows s = front s.used s.records.now
 
 -- how many more it can take in
 abbrev pub room : FlatShelf → ℕ
-room s = min (length s.records.now) 4096 - counted s
+room s = min (length s.records.now) 4096 - s.used
 
 pub rows_short : (s : FlatShelf) → length (rows s) ≤ 1000000
-rows_short s = simp (length-map, length-take) (omega arith)
+rows_short s = le_trans (front_short s.used s.records.now) (le_trans s.few (lit≤ tt))
 
 -- what the lent memory holds after a put: a new atom in its place, and all else as it was
-abbrev pub written : Placed → List Record → Atom Term → List Record
-written Already rs a = rs
-written Full rs a = rs
-written (At p) rs a = set rs p (record { atom = a })
+abbrev pub written : Result Taken Full → List Record → Atom Term → List Record
+written (Ok Already) rs a = rs
+written (Ok (At p)) rs a = slice_set rs p (record { atom = a })
+written (Err full) rs a = rs

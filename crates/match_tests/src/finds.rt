@@ -4,9 +4,9 @@ use fitting::instance::bound_atom;
 use flat_shelf::flat::FlatShelf;
 use matching::find::find_match;
 use matching::places::fit_places;
-use shelves::placed::Placed;
 use shelves::record::Record;
 use shelves::stock::Shelf;
+use shelves::taken::Taken;
 use short_rows::row::Row;
 use std::test::Fail;
 
@@ -15,10 +15,16 @@ use std::test::Fail;
 fn goes_back(rt: HostRuntime) -> Result<(), Fail> {
     let mut records = [Record::blank(); 4];
     let mut shelf = FlatShelf::new(&mut records);
-    assert_eq!(rt; shelf.put(atom(1, Row::One(c(17)))?), Placed::At(0));
-    assert_eq!(rt; shelf.put(atom(1, Row::One(c(18)))?), Placed::At(1));
-    assert_eq!(rt; shelf.put(atom(2, Row::Two(c(18), c(9)))?), Placed::At(2));
-    assert_eq!(rt; shelf.put(atom(2, Row::Two(c(18), c(8)))?), Placed::At(3));
+    assert_eq!(rt; shelf.put(atom(1, Row::One(c(17)))?), Ok(Taken::At(0)));
+    assert_eq!(rt; shelf.put(atom(1, Row::One(c(18)))?), Ok(Taken::At(1)));
+    assert_eq!(rt;
+        shelf.put(atom(2, Row::Two(c(18), c(9)))?),
+        Ok(Taken::At(2))
+    );
+    assert_eq!(rt;
+        shelf.put(atom(2, Row::Two(c(18), c(8)))?),
+        Ok(Taken::At(3))
+    );
     let patterns = [
         pattern(1, Row::One(v(1)))?,
         pattern(2, Row::Two(v(1), v(2)))?,
@@ -38,7 +44,7 @@ fn does_not_go_back_for_nothing(rt: HostRuntime) -> Result<(), Fail> {
     for i in 0..128u32 {
         assert_eq!(rt;
             shelf.put(atom(1, Row::One(c(i + 1)))?),
-            Placed::At(i as usize)
+            Ok(Taken::At(i as usize))
         );
     }
     let patterns = [
@@ -55,9 +61,15 @@ fn does_not_go_back_for_nothing(rt: HostRuntime) -> Result<(), Fail> {
 fn named_places(rt: HostRuntime) -> Result<(), Fail> {
     let mut records = [Record::blank(); 3];
     let mut shelf = FlatShelf::new(&mut records);
-    assert_eq!(rt; shelf.put(atom(1, Row::One(c(17)))?), Placed::At(0));
-    assert_eq!(rt; shelf.put(atom(2, Row::Two(c(17), c(9)))?), Placed::At(1));
-    assert_eq!(rt; shelf.put(atom(2, Row::Two(c(18), c(9)))?), Placed::At(2));
+    assert_eq!(rt; shelf.put(atom(1, Row::One(c(17)))?), Ok(Taken::At(0)));
+    assert_eq!(rt;
+        shelf.put(atom(2, Row::Two(c(17), c(9)))?),
+        Ok(Taken::At(1))
+    );
+    assert_eq!(rt;
+        shelf.put(atom(2, Row::Two(c(18), c(9)))?),
+        Ok(Taken::At(2))
+    );
     let patterns = [
         pattern(1, Row::One(v(1)))?,
         pattern(2, Row::Two(v(1), v(2)))?,

@@ -1,29 +1,75 @@
 //! The overlay: a shelf on a shelf.
-ghost use Rattle.std.specs.Prelude.{◌≡◌, ℕ, ◌≤◌, length};
+ghost use Rattle.std.specs.Prelude.{◌≡◌, ◌-◌, ◌≤◌, min, [], length};
 
+use arrayvec::ArrayVec;
 use shelves::record::Record;
+use shelves::stock::{Shelf, Stock};
+use shelves::taken::Full;
 
-mod parts;
 mod takes;
-
-/// An overlay's own atoms. The ghost fields stand here and not in the overlay, which may hold a `&mut` below.
-#[derive(Clone, Copy)]
-pub struct Own {
-    rows: [Record; 256],
-    count: usize,
-    ghost few: { count ≤ 256 },
-    ghost long: { length rows ≡ 256 },
-}
 
 /// A shelf on the shelf below, with up to 256 atoms of its own.
 #[derive(Drop)]
 pub struct Overlay<S> {
     below: S,
-    own: Own,
+    own: ArrayVec<Record, 256>,
+    ghost few: { length own.items ≤ 256 },
 }
 
-/// The overlay has so many atoms of its own, so that nothing can go on the shelf below.
-#[derive(Clone, Copy, Debug)]
-pub struct NotEmpty {
-    pub own: usize,
+impl<S: Shelf> Overlay<S> {
+    ghost use Rattle.overlays.specs.Stacked.{stacked, spare};
+
+    /// An empty overlay.
+    pub fn new(below: S) -> Overlay<S>
+        ensures below { result.below ≡ below }
+        ensures empty { result.own.items ≡ [] }
+        ensures list { stacked S.Stock.list result ≡ S.Stock.list below }
+        ensures free { spare S.Stock.list result ≡ min 256 (1000000 - length (S.Stock.list below)) }
+    {
+        Overlay {
+            below,
+            own: ArrayVec::new(),
+        }
+    }
+
+    /// Gives the shelf below back.
+    pub fn release(self) -> S
+        ensures { result ≡ self.below }
+    {
+        self.below
+    }
+
+    /// How many atoms of its own it has.
+    pub fn own_len(&self) -> usize
+        ensures value { result ≡ length self.now.own.items }
+        ensures bound { result ≤ 256 }
+    {
+        self.own.len()
+    }
+
+    /// The shelf below.
+    pub fn below(&self) -> &S
+        ensures { result.now ≡ self.now.below }
+    {
+        &self.below
+    }
+}
+
+/// Why nothing went on the shelf below an overlay.
+#[derive(Clone, Copy, PartialEq, Eq, Debug)]
+pub enum NotLowered {
+    /// The overlay has so many atoms of its own.
+    NotEmpty { own: usize },
+    /// The atom is new, and there is no room below.
+    Full,
+}
+
+impl From<Full> for NotLowered {
+    ghost use Rattle.overlays.specs.declared.overlay.NotLowered.TheVariants.{Full};
+
+    ghost from_gives = { λ _ e. e ≡ Full };
+
+    fn from(_full: Full) -> NotLowered {
+        NotLowered::Full
+    }
 }

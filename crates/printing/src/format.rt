@@ -1,6 +1,6 @@
 //! The form of each line that has figures.
 ghost use Rattle.printing.specs.Printed.{taken_text, verdict_text, refusal_text, bad_number_text};
-ghost use Rattle.calls.specs.declared.answer.Taken.TheVariants.{Already, At};
+ghost use Rattle.shelves.specs.declared.taken.Taken.TheVariants.{Already, At};
 ghost use Rattle.calls.specs.declared.answer.Verdict.TheVariants.{Entailed, Inconsistent, NotEntailed};
 ghost use Rattle.std.specs.Prelude.{◌≡◌, IfOk, string_bytes};
 

@@ -3,8 +3,9 @@ ghost use Rattle.printing.specs.Printed.{open_text, taken_text, verdict_text, st
 ghost use Rattle.std.specs.Prelude.{◌≡◌, IfOk, string_bytes};
 
 use crate::format::{already, at, bad, entailed, inconsistent, not_entailed, refused};
-use calls::answer::{Taken, Verdict};
+use calls::answer::Verdict;
 use refusals::refusal::Refusal;
+use shelves::taken::Taken;
 use std::alloc::{AllocError, Global};
 
 /// A check was opened.

@@ -6,7 +6,7 @@ use Rattle.semantics.proofs.Fitting.{some_is, none_some}
 use Rattle.reading.specs.declared.raw.RawAtom.{RawAtom}
 use Rattle.book.specs.Theory.{rules_of, queries_of}
 use Rattle.book.specs.declared.book.Book.{Book}
-use Rattle.calls.specs.declared.answer.Taken.TheVariants.{Already, At}
+use Rattle.shelves.specs.declared.taken.Taken.TheVariants.{Already, At}
 use Rattle.calls.specs.declared.answer.Verdict.TheVariants.{Entailed, NotEntailed}
 use Rattle.calls.specs.declared.event.Event.{Event}
 use Rattle.calls.specs.declared.event.Event.TheVariants.{Lodge, OpenDerivation, OpenModel, Step, Add, Claim, Clash, Refute, StrikeDerivation, StrikeModel, NoSlip}

@@ -14,8 +14,8 @@ use Rattle.chase.proofs.Piles.{stands_on, on_stands}
 use Rattle.semantics.specs.Computed.{atom_of}
 use Rattle.refusals.specs.declared.refusal.Refusal.{Refusal}
 use Rattle.book.specs.Theory.{rules_of}
-use Rattle.calls.specs.declared.answer.Taken.{Taken}
-use Rattle.calls.specs.declared.answer.Taken.TheVariants.{Already, At}
+use Rattle.shelves.specs.declared.taken.Taken.{Taken}
+use Rattle.shelves.specs.declared.taken.Taken.TheVariants.{Already, At}
 use Rattle.protocol.specs.States.{State, OwnDerivation}
 use Rattle.protocol.specs.Calls.{Stepped, Yields, foreign_step, no_rule, not_fired, overfull}
 use Rattle.protocol.specs.ChaseOf.{chase_of}

@@ -10,8 +10,8 @@ use Rattle.refusals.specs.declared.refusal.Refusal.{Refusal}
 use Rattle.book.specs.Theory.{rules_of, constraints_of, queries_of}
 use Rattle.book.specs.declared.book.Book.{Book}
 use Rattle.calls.specs.declared.places.Places.{Places}
-use Rattle.calls.specs.declared.answer.Taken.{Taken}
-use Rattle.calls.specs.declared.answer.Taken.TheVariants.{Already, At}
+use Rattle.shelves.specs.declared.taken.Taken.{Taken}
+use Rattle.shelves.specs.declared.taken.Taken.TheVariants.{Already, At}
 use Rattle.calls.specs.declared.answer.Verdict.{Verdict}
 use Rattle.calls.specs.declared.answer.Verdict.TheVariants.{Entailed, Inconsistent, NotEntailed}
 use Rattle.calls.specs.declared.event.Event.{Event}

@@ -2,7 +2,7 @@
 use Rattle.std.specs.Prelude.{◌≡◌, ℕ, List, [], ◌∷◌, ◌++◌, Ok, Err}
 use Rattle.semantics.specs.Subject.{Atom}
 use Rattle.book.specs.declared.book.Book.{Book}
-use Rattle.calls.specs.declared.answer.Taken.TheVariants.{Already, At}
+use Rattle.shelves.specs.declared.taken.Taken.TheVariants.{Already, At}
 use Rattle.calls.specs.declared.answer.Check.TheVariants.{Derivation, Model}
 use Rattle.calls.specs.declared.event.Event.{Event}
 use Rattle.calls.specs.declared.event.Event.TheVariants.{Lodge, OpenDerivation, OpenModel, Step, Add, Claim, Clash, Refute, StrikeDerivation, StrikeModel, NoSlip}

@@ -2,7 +2,7 @@
 ghost use Rattle.declarations.specs.Bodies.{patterns_meant};
 ghost use Rattle.semantics.specs.Computed.{guard as guard_of};
 ghost use Rattle.std.proofs.Props.{props};
-ghost use Rattle.std.specs.Prelude.{◌≡◌, Some};
+ghost use Rattle.std.specs.Prelude.{◌≡◌, ◌≤◌, length, Some};
 
 use atoms::atom::Pattern;
 use declarations::patterns::Patterns;
@@ -19,4 +19,5 @@ pub struct Rule {
     guard: usize,
     head: Pattern,
     ghost guarded: { guard_of (patterns_meant body) ≡ Some guard } by { Prim.hlevel props },
+    ghost few: { length head.terms ≤ 4 },
 }

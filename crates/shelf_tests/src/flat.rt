@@ -1,9 +1,9 @@
 //! Tests of the flat shelf.
 use crate::made::{Missing, atom, fill};
 use flat_shelf::flat::FlatShelf;
-use shelves::placed::Placed;
 use shelves::record::Record;
 use shelves::stock::{Shelf, Stock};
+use shelves::taken::{Full, Taken};
 use std::test::Fail;
 
 #[test]
@@ -12,7 +12,7 @@ fn no_records(rt: HostRuntime) -> Result<(), Fail> {
     let mut records: [Record; 0] = [];
     let mut shelf = FlatShelf::new(&mut records);
     assert_eq!(rt; shelf.free_count(), 0);
-    assert_eq!(rt; shelf.put(a), Placed::Full);
+    assert_eq!(rt; shelf.put(a), Err(Full));
     assert_eq!(rt; shelf.len(), 0);
     assert!(rt; !shelf.contains(&a));
     assert!(rt; shelf.get(0).is_none());
@@ -27,10 +27,10 @@ fn one_record(rt: HostRuntime) -> Result<(), Fail> {
     let mut shelf = FlatShelf::new(&mut records);
     assert_eq!(rt; shelf.len(), 0);
     assert_eq!(rt; shelf.free_count(), 1);
-    assert_eq!(rt; shelf.put(a), Placed::At(0));
+    assert_eq!(rt; shelf.put(a), Ok(Taken::At(0)));
     assert_eq!(rt; shelf.free_count(), 0);
-    assert_eq!(rt; shelf.put(b), Placed::Full);
-    assert_eq!(rt; shelf.put(a), Placed::Already);
+    assert_eq!(rt; shelf.put(b), Err(Full));
+    assert_eq!(rt; shelf.put(a), Ok(Taken::Already));
     assert!(rt; shelf.get(0).ok_or(Missing)? == a);
     assert!(rt; shelf.get(1).is_none());
     let records = shelf.into_records();
@@ -46,7 +46,7 @@ fn blank_is_no_atom(rt: HostRuntime) -> Result<(), Fail> {
     let mut records = [Record::blank(); 2];
     let mut shelf = FlatShelf::new(&mut records);
     assert!(rt; !shelf.contains(&a));
-    assert_eq!(rt; shelf.put(a), Placed::At(0));
+    assert_eq!(rt; shelf.put(a), Ok(Taken::At(0)));
     assert!(rt; shelf.contains(&a));
     Ok(())
 }
@@ -58,8 +58,8 @@ fn all_4096_records(rt: HostRuntime) -> Result<(), Fail> {
     assert_eq!(rt; shelf.free_count(), 4096);
     fill(&rt, &mut shelf, 4096)?;
     assert_eq!(rt; shelf.free_count(), 0);
-    assert_eq!(rt; shelf.put(atom(4097)?), Placed::Full);
-    assert_eq!(rt; shelf.put(atom(4096)?), Placed::Already);
+    assert_eq!(rt; shelf.put(atom(4097)?), Err(Full));
+    assert_eq!(rt; shelf.put(atom(4096)?), Ok(Taken::Already));
     Ok(())
 }
 
@@ -72,7 +72,7 @@ fn more_than_4096_records(rt: HostRuntime) -> Result<(), Fail> {
     fill(&rt, &mut shelf, 4096)?;
     assert_eq!(rt; shelf.len(), 4096);
     assert_eq!(rt; shelf.free_count(), 0);
-    assert_eq!(rt; shelf.put(atom(4097)?), Placed::Full);
-    assert_eq!(rt; shelf.put(atom(1)?), Placed::Already);
+    assert_eq!(rt; shelf.put(atom(4097)?), Err(Full));
+    assert_eq!(rt; shelf.put(atom(1)?), Ok(Taken::Already));
     Ok(())
 }

@@ -1,7 +1,7 @@
 //! Atoms to put, and many of them put.
 use atoms::atom::{Atom, GroundAtom};
-use shelves::placed::Placed;
 use shelves::stock::{Shelf, Stock};
+use shelves::taken::Taken;
 use short_rows::row::Row;
 use std::process::Abort;
 use std::test::Fail;
@@ -24,7 +24,7 @@ pub(crate) fn atom(number: u32) -> Result<GroundAtom, Missing> {
 /// Puts the atoms 1, 2, .. up to `count` on an empty shelf, each at the next place.
 pub(crate) fn fill<S: Shelf>(rt: &impl Abort, shelf: &mut S, count: u32) -> Result<(), Fail> {
     for i in 0..count {
-        assert_eq!(rt; shelf.put(atom(i + 1)?), Placed::At(i as usize));
+        assert_eq!(rt; shelf.put(atom(i + 1)?), Ok(Taken::At(i as usize)));
     }
     Ok(())
 }

@@ -1,10 +1,9 @@
 //! A shelf that is lent is a shelf.
-ghost use Rattle.std.specs.Prelude.{◌≡◌};
+ghost use Rattle.std.specs.Prelude.{◌≡◌, OnErr};
 ghost use Rattle.shelves.specs.Puts.{Puts};
-ghost use Rattle.shelves.specs.declared.placed.Placed.TheVariants.{Full};
 
-use crate::placed::Placed;
 use crate::stock::{Shelf, Stock};
+use crate::taken::{Full, Taken};
 use atoms::atom::GroundAtom;
 
 impl<'b, S: Shelf> Stock for &'b mut S {
@@ -32,9 +31,9 @@ impl<'b, S: Shelf> Shelf for &'b mut S {
         S::free_count(*self)
     }
 
-    fn put(&mut self, atom: GroundAtom) -> Placed
+    fn put(&mut self, atom: GroundAtom) -> Result<Taken, Full>
         ensures puts { Puts (S.Stock.list self.old.now) (S.Shelf.free self.old.now) atom result (S.Stock.list self.new.now) (S.Shelf.free self.new.now) }
-        ensures full { result ≡ Full → self.new ≡ self.old }
+        ensures full { OnErr result (self.new ≡ self.old) }
         ensures lender { self.new.ghost_name ≡ self.old.ghost_name }
     {
         S::put(*self, atom)

@@ -2,7 +2,7 @@
 #![tactic(auto)]
 
 pub mod lent;
-pub mod placed;
 pub mod record;
 pub mod rows;
 pub mod stock;
+pub mod taken;

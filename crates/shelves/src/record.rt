@@ -27,6 +27,15 @@ impl Record {
     }
 }
 
+/// The blank record.
+impl Default for Record {
+    ghost is_default = { λ r. r.atom ≡ blank_atom };
+
+    fn default() -> Record {
+        Record::blank()
+    }
+}
+
 fn first_predicate() -> Predicate
     ensures { result ≡ first_predicate }
 {

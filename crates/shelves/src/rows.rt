@@ -1,17 +1,30 @@
-//! Rows of records, of which the first few count.
-ghost use Rattle.std.specs.Prelude.{◌≡◌, min, length, Decides};
-ghost use Rattle.std.specs.List.{ContainsAt as Has, slice_get};
-ghost use Rattle.shelves.specs.Rows.{front};
+//! Rows of records.
+ghost use Rattle.std.specs.Prelude.{◌≡◌, map, take, Contains, Decides, slice_get};
+ghost use Rattle.shelves.specs.Rows.{atom_of};
 
 use crate::record::Record;
 use atoms::atom::GroundAtom;
 use exact::equality::same;
 
-/// How many records count, where `used` are to.
-fn limit(rows: &[Record], used: usize) -> usize
-    ensures { result ≡ min used (length rows.now) }
+/// The first records, of which so many count.
+pub fn front(rows: &[Record], used: usize) -> &[Record]
+    ensures { result.now ≡ take used rows.now }
 {
-    used.min(rows.len())
+    rows.get(..used).unwrap_or(rows)
+}
+
+/// Whether the atom stands in one of the records.
+pub fn stands(rows: &[Record], atom: &GroundAtom) -> bool
+    ensures { Decides result (Contains (map atom_of rows.now) atom.now) }
+{
+    rows.iter().any(|row| holds(row, atom))
+}
+
+/// The atom of the record at that place, if there is one.
+pub fn at(rows: &[Record], place: usize) -> Option<GroundAtom>
+    ensures { result ≡ slice_get (map atom_of rows.now) place }
+{
+    rows.get(place).map(|row| row.atom)
 }
 
 /// Whether the record holds the atom.
@@ -19,27 +32,4 @@ fn holds(row: &Record, atom: &GroundAtom) -> bool
     ensures { Decides result (row.now.atom ≡ atom.now) }
 {
     same(&row.atom, atom)
-}
-
-/// Whether the atom stands in one of the first records.
-pub fn stands(rows: &[Record], used: usize, atom: &GroundAtom) -> bool
-    ensures { Decides result (Has (front used rows.now) atom.now) }
-{
-    for i in 0..limit(rows, used) {
-        if holds(&rows[i], atom) {
-            return true;
-        }
-    }
-    false
-}
-
-/// The atom of that record, if it is one of the first.
-pub fn at(rows: &[Record], used: usize, place: usize) -> Option<GroundAtom>
-    ensures { result ≡ slice_get (front used rows.now) place }
-{
-    if place < limit(rows, used) {
-        Some(rows[place].atom)
-    } else {
-        None
-    }
 }

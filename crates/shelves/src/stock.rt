@@ -1,12 +1,10 @@
 //! What a stock is, and a shelf.
-ghost use Rattle.std.specs.Prelude.{◌≡◌, ℕ, ◌+◌, ◌≤◌, List, length, Decides};
-ghost use Rattle.std.specs.List.{ContainsAt as Has, slice_get};
+ghost use Rattle.std.specs.Prelude.{◌≡◌, ℕ, ◌+◌, ◌≤◌, List, length, OnErr, Decides, Contains, slice_get};
 ghost use Rattle.atoms.specs.declared.atom.Atom.{Atom};
 ghost use Rattle.terms.specs.declared.term.Term.{Term};
 ghost use Rattle.shelves.specs.Puts.{Puts};
-ghost use Rattle.shelves.specs.declared.placed.Placed.TheVariants.{Full};
 
-use crate::placed::Placed;
+use crate::taken::{Full, Taken};
 use atoms::atom::GroundAtom;
 
 /// A list of at most 1,000,000 ground atoms.
@@ -25,7 +23,7 @@ pub trait Stock {
 
     /// Whether the atom stands here.
     fn contains(&self, atom: &GroundAtom) -> bool
-        ensures { Decides result (Has (list self.now) atom.now) };
+        ensures { Decides result (Contains (list self.now) atom.now) };
 }
 
 /// A stock that can also take atoms in.
@@ -39,7 +37,7 @@ pub trait Shelf: Stock {
 
     /// Puts a new atom at the end. A full shelf is left as it was, as a whole; of an atom that stands here already
     /// only the list and the free count are promised to stay.
-    fn put(&mut self, atom: GroundAtom) -> Placed
+    fn put(&mut self, atom: GroundAtom) -> Result<Taken, Full>
         ensures puts { Puts (Self.Stock.list self.old) (free self.old) atom result (Self.Stock.list self.new) (free self.new) }
-        ensures full { result ≡ Full → self.new ≡ self.old };
+        ensures full { OnErr result (self.new ≡ self.old) };
 }

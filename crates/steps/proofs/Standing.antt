@@ -1,6 +1,6 @@
 -- An atom stands in the stock exactly where what it means stands in the pile.
 use Rattle.std.proofs.Common.{◌≡◌, ℕ, zero, suc, ◌+◌, ◌<◌, ◌≤◌, List, [], ◌∷◌, map, length, get_or, take, Some, None, Option, sym, refl, ap, ◌∙◌, subst, add-one, arith}
-use Rattle.std.specs.List.{slice_get, AllByRecursion, ContainsAt as Has}
+use Rattle.std.specs.List.{slice_get, AllByRecursion, Contains as Has}
 use Rattle.std.specs.Option.{option_map}
 use Rattle.std.proofs.lemmas.Option.{slice_get-get_or}
 use Rattle.semantics.specs.Subject as subject
@@ -19,7 +19,7 @@ same_fit : (b : Binding) (p : Pattern) (x y : subject.Atom) → Fits b p x → F
 same_fit b p x y f g = λ i. record { pred = (sym f.0 ∙ g.0) i; terms = (gives_terms b p.slots x.terms f.1 ∙ sym (gives_terms b p.slots y.terms g.1)) i }
 
 pub has_on : (xs : List (Atom Term)) (a : Atom Term) → Has xs a → On (pile xs) (atom_meant a)
-has_on xs a (k, h, e) = (k, nth_map atom_meant xs k ∙ ap (option_map atom_meant) (slice_get-get_or xs k a h ∙ ap Some (e a)))
+has_on xs a (k, h, e) = (k, nth_map atom_meant xs k ∙ ap (option_map atom_meant) (slice_get-get_or xs k a h ∙ ap Some e))
 
 mapped_is : (o : Option (Atom Term)) (a : Atom Term) → option_map atom_meant o ≡ Some (atom_meant a) → o ≡ Some a
 mapped_is None a e = absurd (none_some e)
@@ -27,7 +27,7 @@ mapped_is (Some x) a e = ap Some (same_atom x a (some_is e))
 
 nth_has : (xs : List (Atom Term)) (k : ℕ) (a : Atom Term) → slice_get xs k ≡ Some a → Has xs a
 nth_has [] k a e = absurd (none_some e)
-nth_has (x ∷ xs) zero a e = (zero, omega arith, λ d. some_is e)
+nth_has (x ∷ xs) zero a e = (zero, omega arith, some_is e)
 nth_has (x ∷ xs) (suc k) a e = let h = nth_has xs k a e in (suc h.0, omega (arith, h.1), h.2)
 
 pub on_has : (xs : List (Atom Term)) (a : Atom Term) → On (pile xs) (atom_meant a) → Has xs a

@@ -1,74 +1,57 @@
 //! What an overlay answers and takes in.
-ghost use Rattle.std.specs.Prelude.{◌≡◌, ◌-◌, ◌≤◌, min, length, replicate};
-ghost use Rattle.shelves.specs.Blank.{blank_atom};
+ghost use Rattle.std.specs.Prelude.{◌≡◌, ◌+◌, ◌<◌, [], ◌∷◌, ◌++◌, length, map, OnErr};
 ghost use Rattle.shelves.specs.Puts.{Puts};
+ghost use Rattle.shelves.specs.Rows.{atom_of};
+ghost use Rattle.shelves.specs.declared.taken.Taken.TheVariants.{At};
 ghost use Rattle.overlays.specs.Stacked.{stacked, stacked_short, spare, Owned, Lowers};
-ghost use Rattle.shelves.specs.declared.placed.Placed.TheVariants.{Full};
 
-use crate::overlay::parts::blank_rows;
-use crate::overlay::{NotEmpty, Overlay, Own};
+use crate::overlay::{NotLowered, Overlay};
 use atoms::atom::GroundAtom;
-use shelves::placed::Placed;
+use shelves::record::Record;
+use shelves::rows::{at, front, stands};
 use shelves::stock::{Shelf, Stock};
+use shelves::taken::{Full, Taken};
 
 impl<S: Shelf> Overlay<S> {
-    /// An empty overlay.
-    pub fn new(below: S) -> Overlay<S>
-        ensures below { result.below ≡ below }
-        ensures empty { result.own.count ≡ 0 }
-        ensures rows { result.own.rows ≡ replicate 256 (record { atom = blank_atom }) }
-        ensures list { stacked S.Stock.list result ≡ S.Stock.list below }
-        ensures free { spare S.Stock.list result ≡ min 256 (1000000 - length (S.Stock.list below)) }
-    {
-        let own = Own {
-            rows: blank_rows(),
-            count: 0,
-        };
-        Overlay::with(below, own)
-    }
-
     /// Empties the overlay. The shelf below stays as it is.
     pub fn clear(&mut self)
         ensures below { self.new.below ≡ self.old.below }
-        ensures empty { self.new.own.count ≡ 0 }
-        ensures rows { self.new.own.rows ≡ self.old.own.rows }
+        ensures empty { self.new.own.items ≡ [] }
         ensures list { stacked S.Stock.list self.new ≡ S.Stock.list self.old.below }
     {
-        self.keep(0);
+        self.own.clear();
     }
 
     /// Puts an atom on the shelf below, while the overlay has none of its own.
-    pub fn put_below(&mut self, atom: GroundAtom) -> Result<Placed, NotEmpty>
+    pub fn put_below(&mut self, atom: GroundAtom) -> Result<Taken, NotLowered>
         ensures { Lowers S.Stock.list S.Shelf.free self.old atom result self.new }
     {
         let own = self.own_len();
         if own > 0 {
-            return Err(NotEmpty { own });
+            return Err(NotLowered::NotEmpty { own });
         }
-        Ok(self.below.put(atom))
+        Ok(self.below.put(atom)?)
     }
 
-    /// Gives the shelf below back.
-    pub fn release(self) -> S
-        ensures { result ≡ self.below }
+    /// Those of its own that count: what the cut at 1,000,000 leaves.
+    fn seen(&self) -> &[Record]
+        ensures { stacked S.Stock.list self.now ≡ S.Stock.list self.now.below ++ map atom_of result.now }
     {
-        let Overlay { below, own: _ } = self;
-        below
+        front(&self.own, 1_000_000 - self.below.len())
     }
 
-    /// How many atoms of its own it has.
-    pub fn own_len(&self) -> usize
-        ensures value { result ≡ self.now.own.count }
-        ensures bound { result ≤ 256 }
+    /// Adds an atom to its own, and says at which place it stands.
+    fn push(&mut self, atom: GroundAtom) -> usize
+        requires { 0 < spare S.Stock.list self.old }
+        ensures place { result ≡ length (stacked S.Stock.list self.old) }
+        ensures list { stacked S.Stock.list self.new ≡ stacked S.Stock.list self.old ++ atom ∷ [] }
+        ensures free { spare S.Stock.list self.new + 1 ≡ spare S.Stock.list self.old }
+        ensures below { self.new.below ≡ self.old.below }
+        ensures own { Owned self.old.own atom (Ok (At result)) self.new.own }
     {
-        self.own.count
-    }
-
-    /// The shelf below.
-    pub fn below(&self) -> &S
-        ensures { result.now ≡ self.now.below }
-    {
-        &self.below
+        let place = Self::len(self);
+        self.own.push(Record { atom });
+        place
     }
 }
 
@@ -78,44 +61,45 @@ impl<S: Shelf> Stock for Overlay<S> {
     ghost short = { stacked_short S.Stock.list };
 
     fn len(&self) -> usize {
-        self.below.len() + self.seen()
+        self.below.len() + self.seen().len()
     }
 
+    #[tactic(auto, using(crate::proofs::Stacks::slice_get_left, crate::proofs::Stacks::slice_get_right))]
     fn get(&self, place: usize) -> Option<GroundAtom> {
+        let own = self.seen();
         if place < self.below.len() {
-            self.below_at(place)
+            self.below.get(place)
         } else {
-            self.own_at(place)
+            at(own, place - self.below.len())
         }
     }
 
     fn contains(&self, atom: &GroundAtom) -> bool {
-        if self.below_has(atom) {
-            return true;
-        }
-        self.own_has(atom)
+        let own = self.seen();
+        self.below.contains(atom) || stands(own, atom)
     }
 }
 
 impl<S: Shelf> Shelf for Overlay<S> {
     ghost free = { spare S.Stock.list };
 
+    #[tactic(auto, using(crate::specs::Stacked::stacked_short))]
     fn free_count(&self) -> usize {
-        (256 - self.own_len()).min(self.left())
+        self.own.remaining_capacity().min(1_000_000 - self.len())
     }
 
-    fn put(&mut self, atom: GroundAtom) -> Placed
+    fn put(&mut self, atom: GroundAtom) -> Result<Taken, Full>
         ensures puts { Puts (stacked S.Stock.list self.old) (spare S.Stock.list self.old) atom result (stacked S.Stock.list self.new) (spare S.Stock.list self.new) }
-        ensures full { result ≡ Full → self.new ≡ self.old }
+        ensures full { OnErr result (self.new ≡ self.old) }
         ensures below { self.new.below ≡ self.old.below }
         ensures own { Owned self.old.own atom result self.new.own }
     {
         if Self::contains(self, &atom) {
-            return Placed::Already;
+            return Ok(Taken::Already);
         }
         if Self::free_count(self) == 0 {
-            return Placed::Full;
+            return Err(Full);
         }
-        Placed::At(self.push(atom))
+        Ok(Taken::At(self.push(atom)))
     }
 }

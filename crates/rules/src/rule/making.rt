@@ -22,6 +22,8 @@ impl Rule {
         ensures { MakesRule body head result }
     {
         let guard = find_guard(&body)?;
+        // A row's length is known where it is asked for, and the type of rules says that heads are short.
+        let _ = head.terms.len();
         Some(Rule { body, guard, head })
     }
 

@@ -4,6 +4,6 @@ use Rattle.piles.proofs.uses.piled.Goals as goal
 
 pub returns : goal.returns
 returns c =
-    let below = c.new-lower.ensures.list ∙ c.new-flat.ensures.empty in
-    let room = some_room _ _ c.new-upper.ensures.free below in
-    first_ensured _ _ _ _ c.args.atom (c.new-upper.ensures.list ∙ below) room _ c.ensure.ensures.answer c.ensure.ensures.list
+    let below = c.new-2.ensures.list ∙ c.new.ensures.empty in
+    let room = some_room _ _ c.new-pile.ensures.free below in
+    first_ensured _ _ _ _ c.args.atom (c.new-pile.ensures.list ∙ below) room _ c.ensure.ensures.answer c.ensure.ensures.list
