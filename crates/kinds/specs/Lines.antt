@@ -1,5 +1,5 @@
 -- What is read from a line, and how it is written.
-use Rattle.std.specs.Prelude.{ℕ, ◌≤◌, List, map, take, Some, None, Option}
+use Rattle.std.specs.Prelude.{ℕ, ◌≤◌, List, map, take}
 use Rattle.std.specs.List.{AllByRecursion}
 use Rattle.reading.specs.declared.raw.RawAtom.{RawAtom}
 use Rattle.calls.specs.Named.{named}
@@ -10,10 +10,6 @@ use Rattle.kinds.specs.declared.list.AtomList.{AtomList}
 use Rattle.kinds.specs.declared.request.RuleLine.{RuleLine}
 use Rattle.kinds.specs.declared.request.Request.{Request}
 use Rattle.kinds.specs.declared.request.Request.TheVariants.{OpenDerivation, OpenModel, Step, Add, Lodge, Claim, Clash, Refute, Strike}
-
-abbrev pub IfSome : {X : Type 0} → (X → Type 0) → Option X → Type 0
-IfSome P (Some x) = P x
-IfSome P None = Unit {0}
 
 -- an atom with all its terms kept
 abbrev pub Whole : RawAtom → Type 0

@@ -1,9 +1,9 @@
 //! Listing atoms and reading the list.
 ghost use Rattle.kinds.specs.Kinds.{few_of};
-ghost use Rattle.kinds.specs.Lines.{IfSome, held, spelled, WholeList};
+ghost use Rattle.kinds.specs.Lines.{held, spelled, WholeList};
 ghost use Rattle.lines.specs.Atoms.{said};
 ghost use Rattle.std.specs.Option.{option_map};
-ghost use Rattle.std.specs.Prelude.{◌≡◌, map};
+ghost use Rattle.std.specs.Prelude.{◌≡◌, IfSome, map};
 
 use crate::list::AtomList;
 use lines::atom::WrittenAtom;
@@ -13,7 +13,7 @@ impl AtomList {
     /// The atoms of a line; none where there are none or over four.
     pub(crate) fn new(atoms: &[WrittenAtom]) -> Option<AtomList>
         ensures same { option_map spelled result ≡ few_of (map said atoms.now) }
-        ensures whole { IfSome WholeList result }
+        ensures whole { IfSome result WholeList }
     {
         let pad = RawAtom::new(0, &[]);
         match atoms {

@@ -70,12 +70,9 @@ fn raw_atom(predicate: u32, terms: &[RawTerm]) -> RawAtom
 pub(crate) fn take_word(begun: Option<WrittenAtom>, term: RawTerm) -> Option<WrittenAtom>
     ensures { option_map said result ≡ takes (option_map said begun) term }
 {
-    match begun {
-        Some(atom) => atom.with(term),
-        None => match term {
-            RawTerm::Constant(number) => Some(WrittenAtom::new(number)),
-            RawTerm::Null(_) => None,
-            RawTerm::Variable(_) => None,
-        },
+    match (begun, term) {
+        (Some(atom), _) => atom.with(term),
+        (None, RawTerm::Constant(number)) => Some(WrittenAtom::new(number)),
+        _ => None,
     }
 }

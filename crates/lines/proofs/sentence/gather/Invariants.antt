@@ -5,4 +5,4 @@ use Rattle.lines.specs.Sentences.{gathers, gathered}
 use Rattle.lines.proofs.sentence.gather.Given as goal
 
 abbrev pub invariant-loop-i : goal.invariant-loop-i
-invariant-loop-i l = gathers (map said (vec_items l.body)) l.past (option_map said l.begun) (drop l.i l.tokens) ≡ gathered l.tokens
+invariant-loop-i l = gathers (map said (vec_items l.body)) l.part (option_map said l.begun) (drop l.i l.tokens) ≡ gathered l.tokens
