@@ -7,7 +7,6 @@ use Rattle.words.proofs.Inverse.{answers, answers_fit}
 use Rattle.reading.specs.declared.raw.RawAtom.{RawAtom}
 use Rattle.lines.specs.Atoms.{told, atom_text, GoodAtom}
 use Rattle.lines.specs.Sentences.{list_text}
-use Rattle.kinds.specs.declared.list.AtomList.{AtomList}
 use Rattle.kinds.specs.declared.request.RuleLine.{RuleLine}
 use Rattle.kinds.specs.declared.request.Request.{Request}
 use Rattle.kinds.specs.Kinds.{rule_text, GoodList, GoodRule, asked_text, GoodAsked, SmallNumber, fact_of, arity_of, list_of, rule_of, asked_of}
@@ -20,7 +19,7 @@ fact_answered = answers_fit GoodAtom atom_text fact_of fact_inverse told Whole
 pub arity_answered : (line : List ℕ) (r : Result ℕ ReadError) → IfRead r (λ o. o ≡ arity_of line) → IfRead r (λ o. Reads SmallNumber decimal line o)
 arity_answered = answers SmallNumber decimal arity_of arity_inverse (λ o. o)
 
-pub list_answered : (line : List ℕ) (r : Result AtomList ReadError) → IfRead r (λ o. option_map spelled o ≡ list_of line) → IfOk r WholeList → IfRead r (λ o. Reads GoodAtoms atoms_text line o)
+pub list_answered : (line : List ℕ) (r : Result (List RawAtom) ReadError) → IfRead r (λ o. option_map spelled o ≡ list_of line) → IfOk r WholeList → IfRead r (λ o. Reads GoodAtoms atoms_text line o)
 list_answered = answers_fit GoodList list_text list_of list_inverse spelled WholeList
 
 pub rule_answered : (line : List ℕ) (r : Result RuleLine ReadError) → IfRead r (λ o. option_map ruled o ≡ rule_of line) → IfOk r WholeRule → IfRead r (λ o. Reads GoodRuleLine rule_line_text line o)

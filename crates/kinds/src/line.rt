@@ -1,23 +1,21 @@
 //! Reading a line of each kind.
 ghost use Rattle.kinds.specs.Kinds.{SmallNumber, fact_of, arity_of};
 ghost use Rattle.kinds.specs.Lines.{fact_text, GoodFact, atoms_text, GoodAtoms, rule_line_text, GoodRuleLine, request_text, GoodRequest};
-ghost use Rattle.lines.specs.Atoms.{said};
-ghost use Rattle.std.specs.Option.{option_map};
 ghost use Rattle.std.specs.Prelude.{◌≡◌, decimal};
 ghost use Rattle.words.specs.Reads.{Reads, IfRead};
 
-use crate::list::AtomList;
 use crate::parts::{bare_request, plain, request_with, rule_of, sole};
 use crate::request::{Request, RuleLine};
 use lines::atom::WrittenAtom;
 use lines::sentence::read_sentence;
 use reading::raw::RawAtom;
+use short_rows::row::Row;
 use std::alloc::Global;
 use words::error::ReadError;
 
 /// The one atom of a line.
 fn atom(heap: Global, line: &[u8]) -> Result<WrittenAtom, ReadError>
-    ensures { IfRead result (λ o. option_map said o ≡ fact_of line.now) }
+    ensures { IfRead result (λ o. o ≡ fact_of line.now) }
 {
     sole(read_sentence(heap, line)?).ok_or(ReadError::Broken)
 }
@@ -26,7 +24,7 @@ fn atom(heap: Global, line: &[u8]) -> Result<WrittenAtom, ReadError>
 pub fn fact(heap: Global, line: &[u8]) -> Result<RawAtom, ReadError>
     ensures { IfRead result (λ o. Reads GoodFact fact_text line.now o) }
 {
-    atom(heap, line).map(|atom| atom.raw())
+    atom(heap, line).map(RawAtom::from)
 }
 
 /// The arity of a line.
@@ -43,7 +41,7 @@ pub fn arity(heap: Global, line: &[u8]) -> Result<usize, ReadError>
 }
 
 /// The atoms of a constraint or a query.
-pub fn list(heap: Global, line: &[u8]) -> Result<AtomList, ReadError>
+pub fn list(heap: Global, line: &[u8]) -> Result<Row<RawAtom>, ReadError>
     ensures { IfRead result (λ o. Reads GoodAtoms atoms_text line.now o) }
 {
     plain(read_sentence(heap, line)?).ok_or(ReadError::Broken)

@@ -1,24 +1,23 @@
 //! The parts that the kinds of lines are made of.
 ghost use Rattle.kinds.specs.Kinds.{sole_of, few_of, plain_of, rule_from, bare_of, numbers_of, numbered_of, asked_with};
 ghost use Rattle.kinds.specs.Lines.{spelled, WholeList, ruled, WholeRule, asked, WholeRequest};
-ghost use Rattle.lines.specs.Atoms.{said};
 ghost use Rattle.lines.specs.Sentences.{sentence};
 ghost use Rattle.std.specs.Prelude.{◌≡◌, IfOk, IfSome, option_and_then, vec_items};
 ghost use Rattle.std.specs.Option.{option_map};
 ghost use Rattle.words.specs.Reads.{IfRead};
 
-use crate::list::AtomList;
 use crate::request::{Request, RuleLine};
 use calls::places::Places;
 use lines::atom::WrittenAtom;
 use lines::sentence::Sentence;
-use reading::raw::RawTerm;
+use reading::raw::{RawAtom, RawTerm};
+use short_rows::row::Row;
 use std::alloc::Global;
 use words::error::ReadError;
 
 /// The one atom of the sentence.
 pub(crate) fn sole(s: Sentence) -> Option<WrittenAtom>
-    ensures { option_map said result ≡ sole_of (sentence s) }
+    ensures { result ≡ sole_of (sentence s) }
 {
     match (s.head, s.body.as_slice()) {
         (None, [atom]) => Some(*atom),
@@ -27,15 +26,15 @@ pub(crate) fn sole(s: Sentence) -> Option<WrittenAtom>
 }
 
 /// The atoms before the head, one to four.
-fn body_of(s: &Sentence) -> Option<AtomList>
+fn body_of(s: &Sentence) -> Option<Row<RawAtom>>
     ensures same { option_map spelled result ≡ few_of (sentence s.now).body }
     ensures whole { IfSome result WholeList }
 {
-    AtomList::new(s.body.as_slice())
+    Some(Row::from_slice(s.body.as_slice())?.map(RawAtom::from))
 }
 
 /// One to four atoms, and no head.
-pub(crate) fn plain(s: Sentence) -> Option<AtomList>
+pub(crate) fn plain(s: Sentence) -> Option<Row<RawAtom>>
     ensures same { option_map spelled result ≡ plain_of (sentence s) }
     ensures whole { IfSome result WholeList }
 {
@@ -53,7 +52,7 @@ pub(crate) fn rule_of(s: Sentence) -> Option<RuleLine>
     let body = body_of(&s)?;
     Some(RuleLine {
         body,
-        head: s.head?.raw(),
+        head: s.head?.into(),
     })
 }
 
@@ -71,7 +70,7 @@ pub(crate) fn bare_request(letter: char) -> Option<Request>
 
 /// The numbers of an atom whose words are all bare.
 fn numbers(heap: Global, atom: &WrittenAtom) -> Result<Vec<usize>, ReadError>
-    ensures { IfRead result (λ o. option_map vec_items o ≡ numbers_of (said atom.now)) }
+    ensures { IfRead result (λ o. option_map vec_items o ≡ numbers_of atom.now) }
 {
     let mut out = Vec::new(heap);
     out.push(atom.predicate() as usize)?;
@@ -109,7 +108,7 @@ fn numbered_request(letter: char, numbers: &[usize]) -> Option<Request>
 
 /// A request that is a letter and the numbers of an atom.
 fn request_of_numbers(heap: Global, letter: char, atom: &WrittenAtom) -> Result<Request, ReadError>
-    ensures same { IfRead result (λ o. option_map asked o ≡ option_and_then (numbered_of letter) (numbers_of (said atom.now))) }
+    ensures same { IfRead result (λ o. option_map asked o ≡ option_and_then (numbered_of letter) (numbers_of atom.now)) }
     ensures whole { IfOk result WholeRequest }
 {
     let figures = numbers(heap, atom)?;
@@ -122,12 +121,12 @@ pub(crate) fn request_with(
     letter: char,
     atom: WrittenAtom,
 ) -> Result<Request, ReadError>
-    ensures same { IfRead result (λ o. option_map asked o ≡ asked_with letter (said atom)) }
+    ensures same { IfRead result (λ o. option_map asked o ≡ asked_with letter atom) }
     ensures whole { IfOk result WholeRequest }
 {
     match letter {
-        'A' => Ok(Request::Add(atom.raw())),
-        'L' => Ok(Request::Lodge(atom.raw())),
+        'A' => Ok(Request::Add(atom.into())),
+        'L' => Ok(Request::Lodge(atom.into())),
         _ => request_of_numbers(heap, letter, &atom),
     }
 }

@@ -1,7 +1,6 @@
 -- Atoms parted by commas, and after a semicolon perhaps one more.
-use Rattle.std.specs.Prelude.{ℕ, ◌<◌, List, [], ◌∷◌, ◌++◌, map, length, Some, None, vec_items, Option, option_and_then}
+use Rattle.std.specs.Prelude.{ℕ, ◌<◌, List, [], ◌∷◌, ◌++◌, length, Some, None, vec_items, Option, option_and_then}
 use Rattle.std.specs.List.{flat_map, AllByRecursion}
-use Rattle.std.specs.Option.{option_map}
 use Rattle.words.specs.declared.word.Mark.{Mark}
 use Rattle.words.specs.declared.word.Mark.TheVariants.{Space, Comma, Semicolon, End}
 use Rattle.words.specs.declared.word.Token.{Token}
@@ -9,7 +8,7 @@ use Rattle.words.specs.Words.{tokens_of}
 use Rattle.lines.specs.declared.part.Part.{Part}
 use Rattle.lines.specs.declared.part.Part.TheVariants.{Body, Head}
 use Rattle.lines.specs.declared.sentence.Sentence.{Sentence}
-use Rattle.lines.specs.Atoms.{Said, said, atom_text, GoodAtom, takes}
+use Rattle.lines.specs.Atoms.{Said, atom_text, GoodAtom, takes}
 
 -- the atoms before a semicolon, and the one after it
 pub record Spoken : Type 0 where
@@ -17,7 +16,7 @@ pub record Spoken : Type 0 where
   pub head : Option Said
 
 abbrev pub sentence : Sentence → Spoken
-sentence s = record { body = map said (vec_items s.body); head = option_map said s.head }
+sentence s = record { body = vec_items s.body; head = s.head }
 
 -- atoms are parted by one comma
 abbrev pub list_text : List Said → List ℕ

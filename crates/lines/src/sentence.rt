@@ -1,12 +1,10 @@
 //! Sentences: the atoms of a line.
 ghost use Rattle.lines.specs.Sentences.{sentence, closed, gathered, spoken_of, spoken_text, GoodSpoken};
-ghost use Rattle.lines.specs.Atoms.{said};
-ghost use Rattle.std.specs.Prelude.{◌≡◌, map, Some};
+ghost use Rattle.std.specs.Prelude.{◌≡◌, Some};
 ghost use Rattle.std.specs.Option.{option_map};
 ghost use Rattle.words.specs.Reads.{Reads, IfRead};
 
-use crate::atom::WrittenAtom;
-use crate::atom::making::take_word;
+use crate::atom::{WrittenAtom, take_word};
 use crate::part::Part;
 use std::alloc::Global;
 use words::error::ReadError;
@@ -22,7 +20,7 @@ pub struct Sentence {
 
 /// The sentence that the last atom ends.
 fn ended(mut body: Vec<WrittenAtom>, part: Part, last: WrittenAtom) -> Result<Sentence, ReadError>
-    ensures { IfRead result (λ o. option_map sentence o ≡ Some (closed (map said body.items) part (said last))) }
+    ensures { IfRead result (λ o. option_map sentence o ≡ Some (closed body.items part last)) }
 {
     let head = match part {
         Part::Body => {

@@ -19,7 +19,7 @@ pub enum Mark {
 }
 
 /// A word and the mark after it.
-#[derive(Clone, Copy)]
+#[derive(Clone, Copy, PartialEq, Eq, Debug)]
 pub struct Token {
     pub term: RawTerm,
     pub mark: Mark,
@@ -35,7 +35,7 @@ pub enum State {
 }
 
 /// What a byte does: the word goes on, or ends.
-#[derive(Clone, Copy)]
+#[derive(Clone, Copy, PartialEq, Eq, Debug)]
 pub enum Step {
     Go(State),
     Ends(Token),
