@@ -1,5 +1,6 @@
 //! What the program prints.
-use calls::answer::{Taken, Verdict};
+use calls::answer::Verdict;
+use shelves::taken::Taken;
 use calls::event::Event;
 use refusals::refusal::Refusal;
 

@@ -1,6 +1,7 @@
 //! What a checker answers, so that it can be compared, and slips spent.
 use atoms::atom::GroundAtom;
-use calls::answer::{Taken, Verdict};
+use calls::answer::Verdict;
+use shelves::taken::Taken;
 use calls::candidate::Candidate;
 use calls::places::Places;
 use checker::checker::Checker;
