@@ -5,8 +5,8 @@ use fitting::binding::Binding;
 use fitting::instance::bound_atom;
 use matching::find::find_match;
 use refusals::refusal::Refusal;
-use shelves::taken::{Full, Taken};
 use shelves::stock::Stock;
+use shelves::taken::{Full, Taken};
 use terms::term::{PatternTerm, Term};
 
 fn show_slot(rt: &HostRuntime, slot: PatternTerm) -> anyhow::Result<()> {
@@ -58,7 +58,11 @@ pub(crate) fn show_rules(rt: &HostRuntime, book: &Book) -> anyhow::Result<()> {
 }
 
 /// Prints a fact with what the shelf answered.
-pub(crate) fn show_fact(rt: &HostRuntime, fact: &Fact, answer: Result<Taken, Full>) -> anyhow::Result<()> {
+pub(crate) fn show_fact(
+    rt: &HostRuntime,
+    fact: &Fact,
+    answer: Result<Taken, Full>,
+) -> anyhow::Result<()> {
     print!(rt; "{}", fact.predicate.number())?;
     for i in 0..fact.terms.len() {
         if let Some(constant) = fact.terms.get(i) {
