@@ -15,6 +15,12 @@ use Rattle.atoms.specs.declared.atom.Atom.{Atom}
 use Rattle.terms.specs.Meaning.{slot_meant}
 use Rattle.reading.specs.declared.raw.RawAtom.{RawAtom}
 use Rattle.refusals.specs.declared.refusal.Refusal.{Refusal}
+use Rattle.refusals.specs.declared.refusal.Refusal.TheVariants.{OverlayFull}
+use Rattle.shelves.specs.declared.taken.Full as room
+use Rattle.shelves.specs.declared.taken.Taken.{Taken}
+use Rattle.shelves.specs.declared.taken.Taken.TheVariants.{Already, At}
+use Rattle.std.specs.Result.{result_or}
+use Rattle.atoms.specs.Meaning.{atom_meant}
 use Rattle.rules.specs.Meaning.{rule_meant}
 use Rattle.rules.specs.declared.rule.Rule.{Rule}
 use Rattle.book.specs.Theory.{rules_of}
@@ -24,11 +30,11 @@ use Rattle.steps.specs.Judged as judged
 use Rattle.steps.specs.Judged.{Judged}
 use Rattle.steps.specs.Stopping as stopping
 use Rattle.steps.specs.declared.step.Head.{Head}
-use Rattle.protocol.specs.States.{State, OwnDerivation, OwnModel}
-use Rattle.protocol.specs.Calls.{Idle, unfit, not_fired, unfit_atom, Claimed, Clashed, Refuted}
+use Rattle.protocol.specs.States.{State, with_atom, OwnDerivation, OwnModel}
+use Rattle.protocol.specs.Calls.{Idle, unfit, not_fired, unfit_atom, Claimed, Clashed, Refuted, Added, Stepped, overfull, no_room}
 use Rattle.protocol.proofs.Theories.{numbered_map}
 use Rattle.protocol.proofs.Verdicts.{claim_true, clash_true, refute_true}
-use Rattle.checker.specs.Parts.{ReadsFact, ReadsAtom, LodgeJudged, StepJudged, AddJudged, ClaimJudged, ClashJudged, RefuteJudged, Closed}
+use Rattle.checker.specs.Parts.{ReadsFact, ReadsAtom, LodgeJudged, StepJudged, AddJudged, AtomPut, ClaimJudged, ClashJudged, RefuteJudged, Closed}
 use Rattle.checker.specs.Seen.{Seen}
 use Rattle.checker.specs.Views.{plain, TrueAfter, TrueNow}
 use Rattle.checker.specs.declared.slip.Returned.{Returned}
@@ -119,3 +125,15 @@ pub refute_now : {S : Type 0} (m : Candidate) (c d : Seen S) (n : ℕ) (j : Resu
 refute_now m c d n (Ok v) (Ok w) own e h = refute_true m c.state d.state own.0 n w own.1 h
 refute_now m c d n j (Err x) own e h = tt
 refute_now m c d n (Err x) (Ok w) own e h = cc
+
+-- what a put answers, as the answer of the call that made it
+pub added : (s t : State) (n v : ℕ) (w : RawAtom) (a : Atom Term) (r : Result Taken room.Full) → v ≡ s.nulls → AddJudged s n w (Ok a) → AtomPut s (atom_meant a) v r t → Added s n w (result_or r (Err OverlayFull)) t
+added s t n v w a (Ok Already) z ((q, own), is, e) (on, same) = (q, own, is, rw (← e) on, same)
+added s t n v w a (Ok (At k)) z ((q, own), is, e) (new, room, place, more) =
+    (q, own, is, rw (← e) new, room, place, more ∙ (λ i. with_atom s (e i) (z i)))
+added s t n v w a (Err full) z ((q, own), is, e) (new, none, same) = (no_room q (refl, refl, refl) own is (rw (← e) new) none, same)
+
+pub stepped : (s t : State) (n k p : ℕ) (h : Head) (r : Result Taken room.Full) → StepJudged s n k p (Ok h) → AtomPut s (atom_meant h.atom) h.nulls r t → Stepped s n k p (result_or r (Err OverlayFull)) t
+stepped s t n k p h (Ok Already) ((q, own), gives, few) (on, same) = (q, atom_meant h.atom, h.nulls, own, gives, on, same)
+stepped s t n k p h (Ok (At i)) ((q, own), gives, few) (new, room, place, more) = (q, atom_meant h.atom, h.nulls, own, gives, new, room, place, more)
+stepped s t n k p h (Err full) ((q, own), gives, few) (new, none, same) = (overfull q (atom_meant h.atom) h.nulls (refl, refl, refl) own gives new none, same)

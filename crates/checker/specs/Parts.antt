@@ -10,8 +10,9 @@ use Rattle.reading.specs.declared.raw.RawAtom.{RawAtom}
 use Rattle.refusals.specs.Refusals.{Is}
 use Rattle.refusals.specs.declared.refusal.Refusal.{Refusal}
 use Rattle.declarations.specs.Checked.{AtomRefused}
-use Rattle.shelves.specs.declared.placed.Placed.{Placed}
-use Rattle.shelves.specs.declared.placed.Placed.TheVariants.{Already, Full as NoRoom, At}
+use Rattle.shelves.specs.declared.taken.Full as room
+use Rattle.shelves.specs.declared.taken.Taken.{Taken}
+use Rattle.shelves.specs.declared.taken.Taken.TheVariants.{Already, At}
 use Rattle.book.specs.Theory.{predicates_of, rules_of, constraints_of}
 use Rattle.calls.specs.declared.answer.Check.{Check}
 use Rattle.calls.specs.declared.answer.Verdict.{Verdict}
@@ -42,16 +43,16 @@ LodgeJudged s w (Ok a) = Idle s × WrittenFact s w × (atom_meant a ≡ raw_mean
 LodgeJudged s w (Err e) = NotLodged s w e
 
 -- the atom is put on the shelf
-abbrev pub FactPut : State → subject.Atom → Placed → State → Type 0
-FactPut s a Already t = On s.facts a × (t ≡ s)
-FactPut s a NoRoom t = (On s.facts a → ⊥) × (s.free ≡ 0) × (t ≡ s)
-FactPut s a (At p) t = (On s.facts a → ⊥) × (0 < s.free) × (p ≡ length s.facts) × (t ≡ with_fact s a)
+abbrev pub FactPut : State → subject.Atom → Result Taken room.Full → State → Type 0
+FactPut s a (Ok Already) t = On s.facts a × (t ≡ s)
+FactPut s a (Ok (At p)) t = (On s.facts a → ⊥) × (0 < s.free) × (p ≡ length s.facts) × (t ≡ with_fact s a)
+FactPut s a (Err full) t = (On s.facts a → ⊥) × (s.free ≡ 0) × (t ≡ s)
 
 -- the atom is put into the overlay, and n nulls are issued then if it is new
-abbrev pub AtomPut : State → subject.Atom → ℕ → Placed → State → Type 0
-AtomPut s a n Already t = On s.pile a × (t ≡ s)
-AtomPut s a n NoRoom t = (On s.pile a → ⊥) × Full s × (t ≡ s)
-AtomPut s a n (At p) t = (On s.pile a → ⊥) × (Full s → ⊥) × (p ≡ length s.pile) × (t ≡ with_atom s a n)
+abbrev pub AtomPut : State → subject.Atom → ℕ → Result Taken room.Full → State → Type 0
+AtomPut s a n (Ok Already) t = On s.pile a × (t ≡ s)
+AtomPut s a n (Ok (At p)) t = (On s.pile a → ⊥) × (Full s → ⊥) × (p ≡ length s.pile) × (t ≡ with_atom s a n)
+AtomPut s a n (Err full) t = (On s.pile a → ⊥) × Full s × (t ≡ s)
 
 -- the query of the open check of this kind, if the slip's number n is the checker's; or 22
 abbrev pub Owns : (ℕ → Check) → State → ℕ → Result ℕ Refusal → Type 0

@@ -29,10 +29,11 @@ pub struct Checker<S: Shelf> {
 impl<S: Shelf> Model for Checker<S> {
     ghost use Rattle.checker.specs.Seen.{Seen, seen};
     ghost use Rattle.checker.specs.Shapes.{Sound};
+    ghost use Rattle.std.specs.Prelude.{length};
 
     ghost Value = { Seen S };
 
     ghost view = { λ c. seen S.Stock.list S.Shelf.free c.book c.number c.check c.pile c.nulls };
 
-    ghost invariant = { λ c. Sound c.book c.check c.pile.own.count c.nulls };
+    ghost invariant = { λ c. Sound c.book c.check (length c.pile.own.items) c.nulls };
 }

@@ -1,7 +1,7 @@
 -- Calls of a list, the slips that they are made under, and the events that answer them, one to one.
 use Rattle.std.specs.Prelude.{◌≡◌, ℕ, Bool, true, false, List, [], ◌∷◌, ◌++◌, is_ok, Some, None, Ok, Err, Option, Result, slice_index_or, slice_set}
 use Rattle.refusals.specs.declared.refusal.Refusal.{Refusal}
-use Rattle.calls.specs.declared.answer.Taken.{Taken}
+use Rattle.shelves.specs.declared.taken.Taken.{Taken}
 use Rattle.calls.specs.declared.answer.Verdict.{Verdict}
 use Rattle.calls.specs.declared.call.Call.{Call}
 use Rattle.calls.specs.declared.call.Call.TheVariants as call

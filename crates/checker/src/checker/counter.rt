@@ -9,13 +9,13 @@ ghost use Rattle.std.specs.Prelude.{◌≡◌, List, ◌++◌, OnOk};
 use crate::checker::Checker;
 use crate::slip::{ModelSlip, Returned};
 use atoms::atom::GroundAtom;
-use calls::answer::{Taken, Verdict};
+use calls::answer::Verdict;
 use calls::candidate::Candidate;
 use reading::raw::RawAtom;
 use refusals::refusal::Refusal;
 use refutes::refute::judge_refute;
-use shelves::placed::Placed;
 use shelves::stock::Shelf;
+use shelves::taken::Taken;
 
 impl<S: Shelf> Checker<S> {
     /// The ground atom that is written, if it may be added under the slip.
@@ -32,11 +32,8 @@ impl<S: Shelf> Checker<S> {
         ensures left { Left self.old result self.new }
     {
         let ground = self.judge_add(slip, atom)?;
-        match self.put_atom(ground, self.nulls) {
-            Placed::Already => Ok(Taken::Already),
-            Placed::Full => Err(Refusal::OverlayFull),
-            Placed::At(place) => Ok(Taken::At(place)),
-        }
+        self.put_atom(ground, self.nulls)
+            .or(Err(Refusal::OverlayFull))
     }
 
     /// The verdict, if the pile refutes the query of the open model.

@@ -6,10 +6,9 @@ ghost use Rattle.protocol.specs.Runs.{Did};
 
 use crate::checker::Checker;
 use crate::slip::DerivationSlip;
-use calls::answer::Taken;
 use refusals::refusal::Refusal;
-use shelves::placed::Placed;
 use shelves::stock::Shelf;
+use shelves::taken::Taken;
 use steps::step::{Head, judge_step};
 
 impl<S: Shelf> Checker<S> {
@@ -36,10 +35,7 @@ impl<S: Shelf> Checker<S> {
         ensures left { Left self.old result self.new }
     {
         let head = self.judge_use(slip, rule, place)?;
-        match self.put_atom(head.atom, head.nulls) {
-            Placed::Already => Ok(Taken::Already),
-            Placed::Full => Err(Refusal::OverlayFull),
-            Placed::At(place) => Ok(Taken::At(place)),
-        }
+        self.put_atom(head.atom, head.nulls)
+            .or(Err(Refusal::OverlayFull))
     }
 }

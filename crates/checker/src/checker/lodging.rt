@@ -6,11 +6,10 @@ ghost use Rattle.protocol.specs.Runs.{Did};
 
 use crate::checker::Checker;
 use atoms::atom::{Fact, GroundAtom};
-use calls::answer::Taken;
 use reading::raw::RawAtom;
 use refusals::refusal::Refusal;
-use shelves::placed::Placed;
 use shelves::stock::Shelf;
+use shelves::taken::Taken;
 
 impl<S: Shelf> Checker<S> {
     /// The fact that is written, as a ground atom.
@@ -44,10 +43,6 @@ impl<S: Shelf> Checker<S> {
         ensures left { LodgeLeft self.old result self.new }
     {
         let atom = self.judge_lodge(fact)?;
-        match self.put_fact(atom) {
-            Placed::Already => Ok(Taken::Already),
-            Placed::Full => Err(Refusal::ShelfFull),
-            Placed::At(place) => Ok(Taken::At(place)),
-        }
+        self.put_fact(atom).or(Err(Refusal::ShelfFull))
     }
 }

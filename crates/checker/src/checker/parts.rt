@@ -1,5 +1,5 @@
 //! The parts of calls: whose slip it is, what goes on the shelf and into the overlay, how a check ends.
-ghost use Rattle.std.specs.Prelude.{◌≡◌, ◌+◌, ◌≤◌, ◌≢◌, IfSome};
+ghost use Rattle.std.specs.Prelude.{◌≡◌, ◌+◌, ◌≤◌, ◌≢◌, IfSome, OnErr};
 ghost use Rattle.atoms.specs.Meaning.{atom_meant};
 ghost use Rattle.book.specs.Theory.{constraints_of};
 ghost use Rattle.checker.specs.Parts.{FactPut, AtomPut, Owns, Closed};
@@ -9,7 +9,6 @@ ghost use Rattle.protocol.specs.Calls.{Asks};
 ghost use Rattle.protocol.specs.States.{anew};
 ghost use Rattle.semantics.specs.Subject.{numbered};
 ghost use Rattle.std.specs.Option.{option_map};
-ghost use Rattle.shelves.specs.declared.placed.Placed.TheVariants.{Full};
 
 use crate::checker::Checker;
 use crate::kind::Kind;
@@ -18,8 +17,8 @@ use atoms::atom::GroundAtom;
 use calls::answer::{Check, Verdict};
 use declarations::patterns::Patterns;
 use refusals::refusal::Refusal;
-use shelves::placed::Placed;
 use shelves::stock::Shelf;
+use shelves::taken::{Full, Taken};
 
 impl<S: Shelf> Checker<S> {
     /// The query of the open check, if the slip is its own.
@@ -48,28 +47,28 @@ impl<S: Shelf> Checker<S> {
     }
 
     /// Puts an atom on the shelf, while no check is open.
-    pub(crate) fn put_fact(&mut self, atom: GroundAtom) -> Placed
+    pub(crate) fn put_fact(&mut self, atom: GroundAtom) -> Result<Taken, Full>
         requires { self.old.state.check ≡ None }
         ensures put { FactPut self.old.state (atom_meant atom) result self.new.state }
-        ensures full { result ≡ Full → self.new ≡ self.old }
+        ensures full { OnErr result (self.new ≡ self.old) }
         ensures own { self.new.pile.own ≡ self.old.pile.own }
     {
-        self.pile.put_below(atom).unwrap()
+        self.pile.put_below(atom).or(Err(Full))
     }
 
     /// Puts an atom into the overlay of the open check; with a new one so many nulls are issued.
-    pub(crate) fn put_atom(&mut self, atom: GroundAtom, nulls: u32) -> Placed
+    pub(crate) fn put_atom(&mut self, atom: GroundAtom, nulls: u32) -> Result<Taken, Full>
         requires open { self.old.state.check ≢ None }
         requires few { nulls ≤ self.old.state.nulls + 4 }
         ensures put { AtomPut self.old.state (atom_meant atom) nulls result self.new.state }
-        ensures full { result ≡ Full → self.new ≡ self.old }
+        ensures full { OnErr result (self.new ≡ self.old) }
         ensures below { self.new.pile.below ≡ self.old.pile.below }
     {
-        let placed = self.pile.put(atom);
-        if let Placed::At(_) = placed {
+        let taken = self.pile.put(atom)?;
+        if let Taken::At(_) = taken {
             self.nulls = nulls;
         }
-        placed
+        Ok(taken)
     }
 
     /// Empties the overlay and goes on with this check, or with none.

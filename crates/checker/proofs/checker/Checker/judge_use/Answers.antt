@@ -14,6 +14,6 @@ returns-in_err-found g c =
 
 pub returns : goal.returns
 returns g c =
-    let few : c.self.inside.nulls ≤ 1024 = omega (arith, c.self.invariant.few, c.self.inside.pile.own.few) in
+    let few : c.self.inside.nulls ≤ 1024 = omega (arith, c.self.invariant.few, c.self.inside.pile.few) in
     step_judged _ _ c.in_ok-own.field-0 _ _ c.in_ok-found.found.now c.judge_step.result c.in_ok-own.ensures.0 (rw (← c.self.view_is) few)
     (rw (← c.self.view_is) (entry_some _ rule_meant c.rule.result (entries c.self.inside.book.rules) c.args.rule c.rule.ensures _ c.in_ok-found.ensures.ok_part)) (rw (← c.self.view_is) c.judge_step.ensures)
