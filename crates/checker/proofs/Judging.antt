@@ -25,7 +25,7 @@ use Rattle.rules.specs.Meaning.{rule_meant}
 use Rattle.rules.specs.declared.rule.Rule.{Rule}
 use Rattle.book.specs.Theory.{rules_of}
 use Rattle.calls.specs.declared.answer.Verdict.{Verdict}
-use Rattle.calls.specs.declared.places.Places.{Places}
+use Rattle.calls.specs.Named.{Places}
 use Rattle.steps.specs.Judged as judged
 use Rattle.steps.specs.Judged.{Judged}
 use Rattle.steps.specs.Stopping as stopping
