@@ -1,3 +1,4 @@
+pub mod Below
 pub mod Claims
 pub mod EdgesHold
 pub mod Image

@@ -18,10 +18,5 @@ fn holds<S: Stock>(stock: &S, place: usize, atom: &GroundAtom) -> bool
 pub(crate) fn earlier<S: Stock>(stock: &S, place: usize, atom: &GroundAtom) -> bool
     ensures { Decides result (Before (S.Stock.list stock.now) place atom.now) }
 {
-    for k in 0..place {
-        if holds(stock, k, atom) {
-            return true;
-        }
-    }
-    false
+    (0..place).any(|k| holds(stock, k, atom))
 }

@@ -1,5 +1,5 @@
 -- A rule at a place: its guard gives the one binding by which it may be used there.
-use Rattle.std.proofs.Common.{◌≡◌, ℕ, ◌<◌, ◌≤◌, Bool, List, map, length, is_some, Some, None, Decides, Option, sym, ap, ◌∙◌, subst, inl, inr, arith}
+use Rattle.std.proofs.Common.{◌≡◌, ℕ, ◌<◌, ◌≤◌, MatchOption, Bool, List, map, length, is_some, Some, None, Decides, Option, sym, ap, ◌∙◌, subst, inl, inr, arith}
 use mathlib.Core.Path.{fun_ext}
 use Rattle.std.specs.List.{slice_get, AllByRecursion}
 use Rattle.std.specs.Option.{option_map}
@@ -27,6 +27,7 @@ use Rattle.matching.proofs.Rounds.{nth_map}
 use Rattle.rules.specs.Meaning.{rule_meant}
 use Rattle.rules.specs.declared.rule.Rule.{Rule}
 use Rattle.steps.specs.Sides.{FirstMissing}
+use Rattle.refutes.specs.Parts.{FirstUnsatisfied}
 use Rattle.steps.proofs.Firing.{fires}
 
 pub found_decides : (m : Candidate) (ps : List Pattern) (o : Option (List (Option Term))) (r : Bool) → r ≡ is_some o → Searched m ps (option_map bound o) → Decides r (HasMatch m ps)
@@ -105,3 +106,8 @@ module _ (xs : List (Atom Term)) (r : Rule) (place : ℕ) (p : Atom PatternTerm)
 -- past the last atom every rule is satisfied
 pub satisfied_all : (xs : List (Atom Term)) (rule : subject.Rule) (n : ℕ) → length xs ≤ n → ((k : ℕ) → k < n → SatisfiedAt (pile-of xs) rule k) → Satisfied (pile-of xs) rule
 satisfied_all xs rule n far below k = elim (cases_lt k n) [ inl l ↦ below k l | inr h ↦ past_satisfied (pile-of xs) rule k (past_all xs n k far h) ]
+
+-- the first place at which a rule is not satisfied, among all of them
+pub first_unsatisfied : (xs : List (Atom Term)) (rule : subject.Rule) (r : Option ℕ) → MatchOption r ((k : ℕ) → k < length xs → SatisfiedAt (pile-of xs) rule k) (λ x. (SatisfiedAt (pile-of xs) rule x → ⊥) × (x < length xs) × ((k : ℕ) → k < x → SatisfiedAt (pile-of xs) rule k)) → FirstUnsatisfied (pile-of xs) rule r
+first_unsatisfied xs rule None m = satisfied_all xs rule (length xs) (omega arith) m
+first_unsatisfied xs rule (Some x) m = (m.2, m.0)

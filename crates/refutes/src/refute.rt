@@ -35,12 +35,7 @@ fn check_size<S: Stock>(stock: &S) -> Result<usize, Refusal>
 fn first_unsatisfied<S: Stock>(stock: &S, rule: &Rule) -> Option<usize>
     ensures { FirstUnsatisfied (pile (S.Stock.list stock.now)) (rule_meant rule.now) result }
 {
-    for place in 0..stock.len() {
-        if !satisfied_at(stock, rule, place) {
-            return Some(place);
-        }
-    }
-    None
+    (0..stock.len()).find(|place| !satisfied_at(stock, rule, *place))
 }
 
 /// That every rule is satisfied; else the lowest that is not.

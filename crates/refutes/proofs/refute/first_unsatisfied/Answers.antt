@@ -1,13 +1,15 @@
-use Rattle.std.proofs.Common.{◌≤◌, length, refl, arith, below_more}
+use Rattle.std.proofs.Common.{ℕ, length, rules, tests}
+use Rattle.std.proofs.lemmas.Iterator.{YieldsList-from_range, first_from_find}
+use Rattle.chase.proofs.Below.{first_below}
+use Rattle.chase.specs.Satisfying.{SatisfiedAt}
+use Rattle.matching.specs.Searches.{pile}
 use Rattle.rules.specs.Meaning.{rule_meant}
-use Rattle.refutes.proofs.Satisfies.{satisfied_all}
+use Rattle.refutes.proofs.Satisfies.{first_unsatisfied}
 use Rattle.refutes.proofs.refute.first_unsatisfied.Goals as goal
-
-pub loop-place-preserved : goal.loop-place-preserved
-loop-place-preserved g c = below_more _ _ c.loop-place.invariant (c.if-not-satisfied_at.ensures.0 refl)
 
 pub returns : goal.returns
 returns g c =
     let xs = g.S.Stock.list c.args.stock.now in
-    let far : length xs ≤ c.loop-place.place = omega (arith, c.len-place-end.ensures) in
-    satisfied_all xs (rule_meant c.args.rule.now) c.loop-place.place far c.loop-place.invariant
+    let P = λ (k : ℕ). SatisfiedAt (pile xs) (rule_meant c.args.rule.now) k in
+    first_unsatisfied xs (rule_meant c.args.rule.now) c.find.result
+    (first_below (length xs) (λ k. P k → ⊥) P c.find.result (first_from_find _ _ c.find.result (λ k. P k → ⊥) P c.find.ensures.ran (YieldsList-from_range 0 (length xs) (length xs) (search rules) (search rules)) (λ x q k. search (rules, tests)) (λ x q k. search (rules, tests))))
