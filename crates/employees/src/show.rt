@@ -7,53 +7,36 @@ use matching::find::find_match;
 use refusals::refusal::Refusal;
 use shelves::stock::Stock;
 use shelves::taken::{Full, Taken};
-use terms::pattern_term::PatternTerm;
-use terms::term::Term;
+use std::fmt;
 
-fn show_slot(rt: &HostRuntime, slot: PatternTerm) -> anyhow::Result<()> {
-    match slot {
-        PatternTerm::Constant(constant) => print!(rt; " {}", constant.number())?,
-        PatternTerm::Variable(variable) => print!(rt; " v{}", variable.number())?,
-    }
-    Ok(())
-}
+/// Patterns, parted by commas.
+#[derive(Clone, Copy)]
+struct Listed<'a>(&'a [Pattern]);
 
-/// Prints a pattern as its predicate and terms.
-fn show_pattern(rt: &HostRuntime, pattern: &Pattern) -> anyhow::Result<()> {
-    let predicate = pattern.predicate.number();
-    print!(rt; "{predicate}")?;
-    for i in 0..pattern.terms.len() {
-        if let Some(slot) = pattern.terms.get(i) {
-            show_slot(rt, slot)?;
+impl fmt::Display for Listed<'_> {
+    fn fmt<W: fmt::Write>(&self, f: &mut fmt::Formatter<W>) -> fmt::Result {
+        for (i, pattern) in self.0.iter().enumerate() {
+            if i > 0 {
+                f.write_str(",")?;
+            }
+            pattern.fmt(f)?;
         }
+        Ok(())
     }
-    Ok(())
-}
-
-/// Prints patterns, parted by commas.
-fn show_patterns(rt: &HostRuntime, patterns: &[Pattern]) -> anyhow::Result<()> {
-    for (i, pattern) in patterns.iter().enumerate() {
-        if i > 0 {
-            print!(rt; ",")?;
-        }
-        show_pattern(rt, pattern)?;
-    }
-    Ok(())
 }
 
 /// Prints each rule with its guard.
 pub(crate) fn show_rules(rt: &HostRuntime, book: &Book) -> anyhow::Result<()> {
     println!(rt; "rules")?;
-    for number in 1..book.rules() + 1 {
-        if let Some(rule) = book.rule(number) {
-            print!(rt; "{number}: ")?;
-            show_patterns(rt, rule.body())?;
-            print!(rt; ";")?;
-            show_pattern(rt, rule.head())?;
-            print!(rt; " has its guard at {}: ", rule.guard())?;
-            show_pattern(rt, rule.guard_pattern())?;
-            println!(rt; "")?;
-        }
+    for (i, rule) in book.all_rules().iter().enumerate() {
+        let body = Listed(rule.body());
+        let head = rule.head();
+        let guard = rule.guard();
+        let guard_pattern = rule.guard_pattern();
+        println!(rt;
+            "{}: {body};{head} has its guard at {guard}: {guard_pattern}",
+            i + 1
+        )?;
     }
     Ok(())
 }
@@ -64,24 +47,16 @@ pub(crate) fn show_fact(
     fact: &Fact,
     answer: Result<Taken, Full>,
 ) -> anyhow::Result<()> {
-    print!(rt; "{}", fact.predicate.number())?;
-    for i in 0..fact.terms.len() {
-        if let Some(constant) = fact.terms.get(i) {
-            print!(rt; " {}", constant.number())?;
-        }
-    }
     match answer {
-        Ok(Taken::At(place)) => println!(rt; " at {place}")?,
-        Ok(Taken::Already) => println!(rt; " already")?,
-        Err(Full) => println!(rt; " full")?,
+        Ok(taken) => println!(rt; "{fact} {taken}")?,
+        Err(full) => println!(rt; "{fact} {full}")?,
     }
     Ok(())
 }
 
 /// Prints what was refused, with the refusal's number and figures.
 pub(crate) fn show_refusal(rt: &HostRuntime, what: &str, refusal: Refusal) -> anyhow::Result<()> {
-    let (first, second) = refusal.figures();
-    println!(rt; "{what}: refused {} {first} {second}", refusal.number())?;
+    println!(rt; "{what}: {refusal}")?;
     Ok(())
 }
 
@@ -96,8 +71,7 @@ pub(crate) fn show_query<S: Stock>(
         return Ok(());
     };
     let patterns = query.as_slice();
-    print!(rt; "{number}: ")?;
-    show_patterns(rt, patterns)?;
+    print!(rt; "{number}: {}", Listed(patterns))?;
     match find_match(stock, patterns) {
         Some(binding) => {
             print!(rt; " matches")?;
@@ -118,30 +92,20 @@ fn show_places<S: Stock>(
     binding: Binding,
 ) -> anyhow::Result<()> {
     for pattern in patterns {
-        if let Some(atom) = bound_atom(binding, pattern) {
-            if let Some(place) = place_of(stock, &atom) {
-                print!(rt; " at {place}")?;
-            }
+        if let Some(atom) = bound_atom(binding, pattern)
+            && let Some(place) = place_of(stock, &atom)
+        {
+            print!(rt; " at {place}")?;
         }
-    }
-    Ok(())
-}
-
-fn show_term(rt: &HostRuntime, term: Term) -> anyhow::Result<()> {
-    match term {
-        Term::Constant(constant) => print!(rt; " {}", constant.number())?,
-        Term::Null(null) => print!(rt; " n{}", null.number())?,
     }
     Ok(())
 }
 
 /// Prints what each variable is bound to.
 fn show_binding(rt: &HostRuntime, binding: Binding) -> anyhow::Result<()> {
-    for i in 0..8usize {
-        let held = binding[i];
+    for (i, held) in binding.iter().enumerate() {
         if let Some(term) = held {
-            print!(rt; " v{} =", i + 1)?;
-            show_term(rt, term)?;
+            print!(rt; " v{} = {term}", i + 1)?;
         }
     }
     Ok(())
@@ -149,12 +113,5 @@ fn show_binding(rt: &HostRuntime, binding: Binding) -> anyhow::Result<()> {
 
 /// The lowest place at which the atom stands.
 fn place_of<S: Stock>(stock: &S, atom: &GroundAtom) -> Option<usize> {
-    for place in 0..stock.len() {
-        if let Some(other) = stock.get(place) {
-            if other == *atom {
-                return Some(place);
-            }
-        }
-    }
-    None
+    (0..stock.len()).find(|place| stock.get(*place) == Some(*atom))
 }
