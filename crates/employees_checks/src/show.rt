@@ -2,16 +2,29 @@
 use calls::answer::Verdict;
 use calls::event::Event;
 use refusals::refusal::Refusal;
-use shelves::taken::Taken;
+use std::fmt;
+
+/// A verdict, with "not entailed" as two words.
+#[derive(Clone, Copy)]
+struct Finding(Verdict);
+
+impl fmt::Display for Finding {
+    fn fmt<W: fmt::Write>(&self, f: &mut fmt::Formatter<W>) -> fmt::Result {
+        match self.0 {
+            Verdict::NotEntailed { query, size } => write!(f, "not entailed {query} {size}"),
+            verdict => verdict.fmt(f),
+        }
+    }
+}
 
 /// Prints a call's number and its answer.
 pub(crate) fn show_event(rt: &HostRuntime, number: usize, event: Event) -> anyhow::Result<()> {
     match event {
-        Event::Lodge(_, answer) => show_taken(rt, number, "lodge", answer),
+        Event::Lodge(_, answer) => show_answer(rt, number, "lodge", answer),
         Event::OpenDerivation(_, answer) => show_done(rt, number, "open derivation", answer),
         Event::OpenModel(_, answer) => show_done(rt, number, "open model", answer),
-        Event::Step { answer, .. } => show_taken(rt, number, "step", answer),
-        Event::Add { answer, .. } => show_taken(rt, number, "add", answer),
+        Event::Step { answer, .. } => show_answer(rt, number, "step", answer),
+        Event::Add { answer, .. } => show_answer(rt, number, "add", answer),
         Event::Claim { answer, .. } => show_verdict(rt, number, "claim", answer),
         Event::Clash { answer, .. } => show_verdict(rt, number, "clash", answer),
         Event::Refute { answer, .. } => show_verdict(rt, number, "refute", answer),
@@ -24,17 +37,15 @@ pub(crate) fn show_event(rt: &HostRuntime, number: usize, event: Event) -> anyho
     }
 }
 
-fn show_taken(
+fn show_answer<T: fmt::Display + Drop>(
     rt: &HostRuntime,
     number: usize,
     call: &str,
-    answer: Result<Taken, Refusal>,
+    answer: Result<T, Refusal>,
 ) -> anyhow::Result<()> {
-    print!(rt; "{number} {call}: ")?;
     match answer {
-        Ok(Taken::Already) => println!(rt; "already")?,
-        Ok(Taken::At(place)) => println!(rt; "at {place}")?,
-        Err(refusal) => show_number(rt, refusal)?,
+        Ok(given) => println!(rt; "{number} {call}: {given}")?,
+        Err(refusal) => println!(rt; "{number} {call}: {refusal}")?,
     }
     Ok(())
 }
@@ -45,12 +56,7 @@ fn show_done(
     call: &str,
     answer: Result<(), Refusal>,
 ) -> anyhow::Result<()> {
-    print!(rt; "{number} {call}: ")?;
-    match answer {
-        Ok(()) => println!(rt; "done")?,
-        Err(refusal) => show_number(rt, refusal)?,
-    }
-    Ok(())
+    show_answer(rt, number, call, answer.map(|()| "done"))
 }
 
 fn show_verdict(
@@ -59,32 +65,5 @@ fn show_verdict(
     call: &str,
     answer: Result<Verdict, Refusal>,
 ) -> anyhow::Result<()> {
-    print!(rt; "{number} {call}: ")?;
-    match answer {
-        Ok(verdict) => show_finding(rt, verdict),
-        Err(refusal) => show_number(rt, refusal),
-    }
-}
-
-fn show_finding(rt: &HostRuntime, verdict: Verdict) -> anyhow::Result<()> {
-    match verdict {
-        Verdict::Entailed {
-            query,
-            added,
-            nulls,
-        } => println!(rt; "entailed {query} {added} {nulls}")?,
-        Verdict::Inconsistent {
-            constraint,
-            added,
-            nulls,
-        } => println!(rt; "inconsistent {constraint} {added} {nulls}")?,
-        Verdict::NotEntailed { query, size } => println!(rt; "not entailed {query} {size}")?,
-    }
-    Ok(())
-}
-
-fn show_number(rt: &HostRuntime, refusal: Refusal) -> anyhow::Result<()> {
-    let (first, second) = refusal.figures();
-    println!(rt; "refused {} {first} {second}", refusal.number())?;
-    Ok(())
+    show_answer(rt, number, call, answer.map(|verdict| Finding(verdict)))
 }
