@@ -31,7 +31,7 @@ fn run(rt: &HostRuntime) -> anyhow::Result<()> {
     let mut shelf = FlatShelf::new(&mut records);
     fill(rt, &book, &mut shelf)?;
     println!(rt; "queries")?;
-    for number in 1..book.queries() + 1 {
+    for number in 1..=book.queries() {
         show_query(rt, &book, &shelf, number)?;
     }
     Ok(())

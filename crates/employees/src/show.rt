@@ -7,29 +7,35 @@ use matching::find::find_match;
 use refusals::refusal::Refusal;
 use shelves::stock::Stock;
 use shelves::taken::{Full, Taken};
+use std::fmt;
 
-/// Prints patterns, parted by commas.
-fn show_patterns(rt: &HostRuntime, patterns: &[Pattern]) -> anyhow::Result<()> {
-    for (i, pattern) in patterns.iter().enumerate() {
-        if i > 0 {
-            print!(rt; ",")?;
+/// Patterns, parted by commas.
+#[derive(Clone, Copy)]
+struct Listed<'a>(&'a [Pattern]);
+
+impl fmt::Display for Listed<'_> {
+    fn fmt<W: fmt::Write>(&self, f: &mut fmt::Formatter<W>) -> fmt::Result {
+        for (i, pattern) in self.0.iter().enumerate() {
+            if i > 0 {
+                f.write_str(",")?;
+            }
+            pattern.fmt(f)?;
         }
-        print!(rt; "{pattern}")?;
+        Ok(())
     }
-    Ok(())
 }
 
 /// Prints each rule with its guard.
 pub(crate) fn show_rules(rt: &HostRuntime, book: &Book) -> anyhow::Result<()> {
     println!(rt; "rules")?;
     for (i, rule) in book.all_rules().iter().enumerate() {
-        print!(rt; "{}: ", i + 1)?;
-        show_patterns(rt, rule.body())?;
+        let body = Listed(rule.body());
+        let head = rule.head();
+        let guard = rule.guard();
+        let guard_pattern = rule.guard_pattern();
         println!(rt;
-            ";{} has its guard at {}: {}",
-            rule.head(),
-            rule.guard(),
-            rule.guard_pattern()
+            "{}: {body};{head} has its guard at {guard}: {guard_pattern}",
+            i + 1
         )?;
     }
     Ok(())
@@ -65,8 +71,7 @@ pub(crate) fn show_query<S: Stock>(
         return Ok(());
     };
     let patterns = query.as_slice();
-    print!(rt; "{number}: ")?;
-    show_patterns(rt, patterns)?;
+    print!(rt; "{number}: {}", Listed(patterns))?;
     match find_match(stock, patterns) {
         Some(binding) => {
             print!(rt; " matches")?;
@@ -87,10 +92,10 @@ fn show_places<S: Stock>(
     binding: Binding,
 ) -> anyhow::Result<()> {
     for pattern in patterns {
-        if let Some(atom) = bound_atom(binding, pattern) {
-            if let Some(place) = place_of(stock, &atom) {
-                print!(rt; " at {place}")?;
-            }
+        if let Some(atom) = bound_atom(binding, pattern)
+            && let Some(place) = place_of(stock, &atom)
+        {
+            print!(rt; " at {place}")?;
         }
     }
     Ok(())

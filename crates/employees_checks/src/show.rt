@@ -4,7 +4,7 @@ use calls::event::Event;
 use refusals::refusal::Refusal;
 use std::fmt;
 
-/// A verdict in the words of this program.
+/// A verdict, with "not entailed" as two words.
 #[derive(Clone, Copy)]
 struct Finding(Verdict);
 
@@ -20,11 +20,11 @@ impl fmt::Display for Finding {
 /// Prints a call's number and its answer.
 pub(crate) fn show_event(rt: &HostRuntime, number: usize, event: Event) -> anyhow::Result<()> {
     match event {
-        Event::Lodge(_, answer) => show(rt, number, "lodge", answer),
+        Event::Lodge(_, answer) => show_answer(rt, number, "lodge", answer),
         Event::OpenDerivation(_, answer) => show_done(rt, number, "open derivation", answer),
         Event::OpenModel(_, answer) => show_done(rt, number, "open model", answer),
-        Event::Step { answer, .. } => show(rt, number, "step", answer),
-        Event::Add { answer, .. } => show(rt, number, "add", answer),
+        Event::Step { answer, .. } => show_answer(rt, number, "step", answer),
+        Event::Add { answer, .. } => show_answer(rt, number, "add", answer),
         Event::Claim { answer, .. } => show_verdict(rt, number, "claim", answer),
         Event::Clash { answer, .. } => show_verdict(rt, number, "clash", answer),
         Event::Refute { answer, .. } => show_verdict(rt, number, "refute", answer),
@@ -37,7 +37,7 @@ pub(crate) fn show_event(rt: &HostRuntime, number: usize, event: Event) -> anyho
     }
 }
 
-fn show<T: fmt::Display + Drop>(
+fn show_answer<T: fmt::Display + Drop>(
     rt: &HostRuntime,
     number: usize,
     call: &str,
@@ -56,7 +56,7 @@ fn show_done(
     call: &str,
     answer: Result<(), Refusal>,
 ) -> anyhow::Result<()> {
-    show(rt, number, call, answer.map(|()| "done"))
+    show_answer(rt, number, call, answer.map(|()| "done"))
 }
 
 fn show_verdict(
@@ -65,5 +65,5 @@ fn show_verdict(
     call: &str,
     answer: Result<Verdict, Refusal>,
 ) -> anyhow::Result<()> {
-    show(rt, number, call, answer.map(|verdict| Finding(verdict)))
+    show_answer(rt, number, call, answer.map(|verdict| Finding(verdict)))
 }

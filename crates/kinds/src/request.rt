@@ -11,7 +11,7 @@ pub struct RuleLine {
 }
 
 /// What a line of a certificate asks for.
-#[derive(Clone, Copy)]
+#[derive(Clone, Copy, Debug)]
 pub enum Request {
     OpenDerivation(usize),
     OpenModel(usize),
