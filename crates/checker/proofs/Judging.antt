@@ -4,6 +4,7 @@ use Rattle.std.specs.Result.{OnOk}
 use Rattle.std.specs.List.{slice_get}
 use Rattle.std.specs.Option.{option_map, ok_or}
 use Rattle.std.proofs.lemmas.Bool.{eqb-false}
+use Rattle.std.proofs.lemmas.List.{length-map}
 use Rattle.std.proofs.lemmas.Option.{none-some, slice_get_within}
 use Rattle.semantics.specs.Subject as subject
 use Rattle.semantics.specs.Subject.{Slot, con, var, Binding, Candidate, numbered}
