@@ -4,15 +4,14 @@ use Rattle.semantics.specs.Subject as subject
 use Rattle.terms.specs.Meaning.{term_meant, constant_meant, slot_meant}
 use Rattle.terms.specs.declared.constant.Constant.{Constant}
 use Rattle.terms.specs.declared.term.Term.{Term}
-use Rattle.terms.specs.declared.term.PatternTerm.{PatternTerm}
-use Rattle.short_rows.specs.Rows.{listed}
+use Rattle.terms.specs.declared.pattern_term.PatternTerm.{PatternTerm}
 use Rattle.atoms.specs.declared.atom.Atom.{Atom}
 
 abbrev pub atom_meant : Atom Term → subject.Atom
-atom_meant a = record { pred = a.predicate.number; terms = map term_meant (listed a.terms) }
+atom_meant a = record { pred = a.predicate.number; terms = map term_meant a.terms }
 
 abbrev pub fact_meant : Atom Constant → subject.Atom
-fact_meant a = record { pred = a.predicate.number; terms = map constant_meant (listed a.terms) }
+fact_meant a = record { pred = a.predicate.number; terms = map constant_meant a.terms }
 
 abbrev pub pattern_meant : Atom PatternTerm → subject.Pattern
-pattern_meant p = record { pred = p.predicate.number; slots = map slot_meant (listed p.terms) }
+pattern_meant p = record { pred = p.predicate.number; slots = map slot_meant p.terms }

@@ -2,5 +2,6 @@
 #![tactic(auto)]
 
 pub mod atom;
+mod exactness;
 pub mod fact;
 pub mod variables;

@@ -8,11 +8,9 @@ use Rattle.semantics.specs.Subject.{Slot, con, var, Binding, Pattern, numbered}
 use Rattle.semantics.proofs.Fitting.{none_some}
 use Rattle.chase.specs.Chase.{fresh, fresh_slot, fresh_var}
 use Rattle.terms.specs.declared.term.Term.{Term}
-use Rattle.terms.specs.declared.term.PatternTerm.{PatternTerm}
+use Rattle.terms.specs.declared.pattern_term.PatternTerm.{PatternTerm}
 use Rattle.atoms.specs.Meaning.{pattern_meant}
-use Rattle.short_rows.specs.Rows.{listed}
 use Rattle.atoms.specs.declared.atom.Atom.{Atom}
-use Rattle.short_rows.specs.declared.row.Row.{Row}
 use Rattle.short_rows.specs.declared.row.Row.TheVariants.{One, Two, Three, Four}
 use Rattle.terms.specs.Meaning.{slot_meant}
 use Rattle.reading.specs.declared.raw.RawAtom.{RawAtom}
@@ -103,7 +101,7 @@ fresh_few : (b : Binding) (n : ℕ) (ss : List Slot) → (fresh b n ss).1 ≤ n 
 fresh_few b n [] = omega arith
 fresh_few b n (s ∷ ss) = omega (arith, slot_few b n s, fresh_few (fresh_slot b n s).0 (fresh_slot b n s).1 ss)
 
-row_four : (r : Row PatternTerm) → length (map slot_meant (listed r)) ≤ 4
+row_four : (r : List PatternTerm) → length (map slot_meant r) ≤ 4
 row_four (One a) = omega arith
 row_four (Two a b) = omega arith
 row_four (Three a b c) = omega arith

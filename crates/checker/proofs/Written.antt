@@ -6,7 +6,6 @@ use Rattle.terms.specs.declared.constant.Constant as con
 use Rattle.terms.specs.declared.term.Term.{Term}
 use Rattle.terms.specs.declared.term.Term.TheVariants.{Constant, Null}
 use Rattle.atoms.specs.Meaning.{atom_meant}
-use Rattle.short_rows.specs.Rows.{listed}
 use Rattle.atoms.specs.declared.atom.Atom.{Atom}
 use Rattle.reading.specs.Written.{constant_written, term_written}
 use Rattle.reading.specs.declared.raw.RawAtom.{RawAtom}
@@ -26,15 +25,15 @@ terms (Constant c ∷ xs) = ap (λ (l : List ℕ). c.number ∷ l) (terms xs)
 terms (Null k ∷ xs) = ap (λ (l : List ℕ). term_meant (Null k) ∷ l) (terms xs)
 
 module _ (arities : List ℕ) (w : RawAtom) where
-  pub fact_read : (a : Atom con.Constant) (r : Atom Term) → Taken constant_written arities w a → r.predicate ≡ a.predicate → listed r.terms ≡ map Constant (listed a.terms) → atom_meant r ≡ raw_meant w
+  pub fact_read : (a : Atom con.Constant) (r : Atom Term) → Taken constant_written arities w a → r.predicate ≡ a.predicate → r.terms ≡ map Constant a.terms → atom_meant r ≡ raw_meant w
   fact_read a r t p e =
-      let row : map term_meant (listed r.terms) ≡ (raw_meant w).terms = ap (map term_meant) e ∙ constants (listed a.terms) ∙ ap (map raw_number) t.terms in
+      let row : map term_meant r.terms ≡ (raw_meant w).terms = ap (map term_meant) e ∙ constants a.terms ∙ ap (map raw_number) t.terms in
       let pred : r.predicate.number ≡ w.predicate = ap (λ q. q.number) p ∙ t.predicate in
       λ i. record { pred = pred i; terms = row i }
 
   pub atom_read : (a : Atom Term) → Taken term_written arities w a → atom_meant a ≡ raw_meant w
   atom_read a t =
-      let row : map term_meant (listed a.terms) ≡ (raw_meant w).terms = terms (listed a.terms) ∙ ap (map raw_number) t.terms in
+      let row : map term_meant a.terms ≡ (raw_meant w).terms = terms a.terms ∙ ap (map raw_number) t.terms in
       λ i. record { pred = t.predicate i; terms = row i }
 
 pub reads_atom : (s : State) (w : RawAtom) (r : Result (Atom Term) Refusal) → Checked term_written (predicates_of s.book) 0 w r → ReadsAtom s w r

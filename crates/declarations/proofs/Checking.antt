@@ -1,16 +1,14 @@
 -- The refusals of an atom, from what the code has found.
 use Rattle.std.proofs.Common.{◌≡◌, ℕ, List, Some, Err, sym, refl, ap, subst}
-use Rattle.short_rows.specs.Rows.{listed, listed_or_none}
 use Rattle.reading.specs.Written.{ReadsAll}
 use Rattle.reading.specs.declared.raw.RawAtom.{RawAtom}
 use Rattle.reading.specs.declared.raw.RawTerm.{RawTerm}
 use Rattle.refusals.specs.declared.refusal.Refusal.TheVariants.{TermNotAllowed}
-use Rattle.short_rows.specs.declared.row.Row.{Row}
 use Rattle.semantics.specs.Subject.{numbered}
 use Rattle.declarations.specs.Checked.{AtomRefused, bad_term}
 
-pub stops_at_term : {T : Type 0} (written : T → RawTerm) (arities : List ℕ) (index : ℕ) (raw : RawAtom) (row : Row RawTerm) (i : ℕ) → numbered arities raw.predicate ≡ Some raw.count → raw.first ≡ Some row → ReadsAll {T = T} written (listed row) (Err i) → AtomRefused written arities index raw (TermNotAllowed index i)
+pub stops_at_term : {T : Type 0} (written : T → RawTerm) (arities : List ℕ) (index : ℕ) (raw : RawAtom) (row : List RawTerm) (i : ℕ) → numbered arities raw.predicate ≡ Some raw.terms.count → raw.first ≡ Some row → ReadsAll {T = T} written row (Err i) → AtomRefused written arities index raw (TermNotAllowed index i)
 stops_at_term {T = T} written arities index raw row i declared is h =
-    let e : listed row ≡ listed_or_none raw.first = ap listed_or_none (sym is) in
-    let at : ReadsAll {T = T} written (listed_or_none raw.first) (Err i) = subst (λ (ws : List RawTerm). ReadsAll {T = T} written ws (Err i)) e h in
+    let e : row ≡ raw.terms.first = ap listed_or_none (sym is) in
+    let at : ReadsAll {T = T} written (raw.terms.first) (Err i) = subst (λ (ws : List RawTerm). ReadsAll {T = T} written ws (Err i)) e h in
     bad_term i at.0.0 declared at.0.1 at.0.2 at.1 (refl, refl, refl)

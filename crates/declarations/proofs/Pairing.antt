@@ -8,7 +8,7 @@ use Rattle.reading.specs.Written.{slot_written}
 use Rattle.atoms.specs.declared.atom.Atom.{Atom}
 use Rattle.reading.specs.declared.raw.RawAtom.{RawAtom}
 use Rattle.refusals.specs.declared.refusal.Refusal.{Refusal}
-use Rattle.terms.specs.declared.term.PatternTerm.{PatternTerm}
+use Rattle.terms.specs.declared.pattern_term.PatternTerm.{PatternTerm}
 use Rattle.declarations.specs.Bodies.{Pairwise, OneToFour, TakenAs, Fine, refused_atom, PatternsChecked}
 use Rattle.declarations.specs.Checked.{AtomRefused}
 use Rattle.declarations.specs.declared.patterns.Patterns.{Patterns}

@@ -7,7 +7,8 @@ use matching::find::find_match;
 use refusals::refusal::Refusal;
 use shelves::placed::Placed;
 use shelves::stock::Stock;
-use terms::term::{PatternTerm, Term};
+use terms::pattern_term::PatternTerm;
+use terms::term::Term;
 
 fn show_slot(rt: &HostRuntime, slot: PatternTerm) -> anyhow::Result<()> {
     match slot {

@@ -20,7 +20,7 @@ pub(crate) fn c(number: u32) -> RawTerm {
 
 pub(crate) fn pattern(predicate: usize, row: Row<RawTerm>) -> Result<Pattern, Unfit> {
     let predicate = Predicate::new(predicate).ok_or(Unfit)?;
-    match read_row::<terms::term::PatternTerm>(row) {
+    match read_row::<terms::pattern_term::PatternTerm>(row) {
         Ok(terms) => Ok(Atom { predicate, terms }),
         Err(_) => Err(Unfit),
     }

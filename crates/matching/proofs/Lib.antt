@@ -1,2 +1,3 @@
 pub mod Placed
 pub mod Rounds
+pub mod Standing

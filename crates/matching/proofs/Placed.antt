@@ -1,19 +1,22 @@
 -- One turn of fitting patterns at named places.
-use Rattle.std.proofs.Common.{◌≡◌, ℕ, ◌+◌, ◌<◌, List, length, get_or, IsErrAnd, Some, Ok, Err, Option, Result, sym, ap, ◌∙◌, subst, add-one}
+use Rattle.std.proofs.Common.{◌≡◌, ℕ, ◌+◌, ◌<◌, List, length, get_or, IsErrAnd, Some, None, Ok, Err, Option, Result, sym, ap, ◌∙◌, subst, add-one}
 use Rattle.std.specs.List.{slice_get}
-use Rattle.std.specs.Option.{option_map}
+use Rattle.std.specs.Option.{option_map, ok_or}
 use Rattle.std.proofs.lemmas.Option.{slice_get-get_or}
 use Rattle.std.proofs.lemmas.Result.{err_from_is_err_and}
 use Rattle.semantics.specs.Subject as subject
 use Rattle.semantics.proofs.Placing.{Sofar, one_more, stops}
-use Rattle.atoms.specs.Meaning.{pattern_meant}
+use Rattle.atoms.specs.Meaning.{atom_meant, pattern_meant}
 use Rattle.atoms.specs.declared.atom.Atom.{Atom}
+use Rattle.atoms.specs.declared.atom.Atom as code
+use Rattle.refusals.specs.Refusals.{Is}
+use Rattle.semantics.specs.Computed.{fit}
 use Rattle.refusals.specs.declared.refusal.Refusal.{Refusal}
-use Rattle.terms.specs.declared.term.PatternTerm.{PatternTerm}
+use Rattle.terms.specs.declared.pattern_term.PatternTerm.{PatternTerm}
 use Rattle.terms.specs.declared.term.Term.{Term}
-use Rattle.fitting.specs.Bindings.{bound_or}
+use Rattle.fitting.specs.Bindings.{bound, bound_or}
 use Rattle.matching.specs.Places.{NotPlaced, past, unfit, NotFitted, place_past, place_unfit, FittedAt, Placed}
-use Rattle.matching.specs.Searches.{patterns_meant}
+use Rattle.matching.specs.Searches.{pile, patterns_meant}
 use Rattle.matching.proofs.Rounds.{nth_map}
 
 module _ (pile : List subject.Atom) (ps : List (Atom PatternTerm)) (ks : List ℕ) (i : ℕ) (p : Atom PatternTerm) (hp : i < length ps) (ep : p ≡ get_or ps i p) (hk : i < length ks) (b : subject.Binding) (so : Sofar pile (patterns_meant ps) ks b i) where
@@ -36,3 +39,8 @@ pub exits : (pile : List subject.Atom) (ps : List subject.Pattern) (ks : List �
 exits pile ps ks e r out not =
     let p = err_from_is_err_and r out in
     subst (λ x. Placed pile ps ks (bound_or x)) (sym (p.1 ∙ ap Err p.2)) not
+
+-- the atom at the place, fitted or not
+pub fitted : (xs : List (code.Atom Term)) (b : subject.Binding) (i : ℕ) (p : subject.Pattern) (k : ℕ) (a : code.Atom Term) → slice_get xs k ≡ Some a → (o : Option (List (Option Term))) → option_map bound o ≡ fit b p (atom_meant a) → (e : Refusal) → Is e 13 i k → (r : Result (List (Option Term)) Refusal) → r ≡ ok_or o e → FittedAt (pile xs) b i p k (bound_or r)
+fitted xs b i p k a there (Some c) f e is r q = subst (λ x. FittedAt (pile xs) b i p k (bound_or x)) (sym q) (atom_meant a, nth_map atom_meant xs k ∙ ap (option_map atom_meant) there, sym f)
+fitted xs b i p k a there None f e is r q = subst (λ x. FittedAt (pile xs) b i p k (bound_or x)) (sym q) (place_unfit (atom_meant a) is (nth_map atom_meant xs k ∙ ap (option_map atom_meant) there) (sym f))

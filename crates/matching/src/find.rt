@@ -1,32 +1,24 @@
 //! Looking for a match of several patterns in a stock.
-ghost use Rattle.std.specs.Prelude.{◌≡◌, suc, ◌||◌, List, [], ◌∷◌};
+ghost use Rattle.std.specs.Prelude.{◌≡◌, suc, [], ◌∷◌, map};
 ghost use Rattle.fitting.specs.Bindings.{bound};
 ghost use Rattle.matching.specs.Searches.{pile, patterns_meant};
 ghost use Rattle.semantics.specs.Computed.{nothing, reaches, first_match};
 ghost use Rattle.semantics.specs.Subject.{On, Searched, in_patterns};
 ghost use Rattle.std.specs.Option.{option_map};
-ghost use Rattle.atoms.specs.Meaning.{pattern_meant};
 ghost use Rattle.terms.specs.Meaning.{slot_meant};
-ghost use Rattle.short_rows.specs.Rows.{listed};
 
 use atoms::atom::Pattern;
 use fitting::binding::{Binding, unbound};
 use fitting::fit::fit;
 use shelves::stock::Stock;
-use short_rows::row::Row;
-use terms::term::PatternTerm;
+use terms::pattern_term::PatternTerm;
 use terms::variable::Variable;
 
 /// Whether the variable stands in one of the patterns.
 fn stands_in(variable: Variable, patterns: &[Pattern]) -> bool
     ensures { result ≡ in_patterns (suc variable.index) (patterns_meant patterns.now) }
 {
-    for pattern in patterns {
-        if pattern.has(variable) {
-            return true;
-        }
-    }
-    false
+    patterns.iter().any(|pattern| pattern.has(variable))
 }
 
 /// Whether the slot is a variable that is not bound and stands in one of the patterns.
@@ -36,32 +28,16 @@ fn slot_reaches(binding: Binding, slot: PatternTerm, later: &[Pattern]) -> bool
     match slot {
         PatternTerm::Constant(_) => false,
         PatternTerm::Variable(variable) => {
-            let index = variable.index();
-            let held = binding[index];
-            held.is_none() && stands_in(variable, later)
+            binding[variable.index()].is_none() && stands_in(variable, later)
         }
     }
 }
 
-/// Whether a variable of the pattern that is not bound stands in one of the later patterns.
-fn pattern_reaches(binding: Binding, pattern: &Pattern, later: &[Pattern]) -> bool
-    ensures { result ≡ reaches (bound binding) (pattern_meant pattern.now).slots (patterns_meant later.now) }
+/// Whether a variable of the slots that is not bound stands in one of the later patterns.
+fn slots_reach(binding: Binding, slots: &[PatternTerm], later: &[Pattern]) -> bool
+    ensures { result ≡ reaches (bound binding) (map slot_meant slots.now) (patterns_meant later.now) }
 {
-    match pattern.terms {
-        Row::One(a) => slot_reaches(binding, a, later),
-        Row::Two(a, b) => slot_reaches(binding, a, later) || slot_reaches(binding, b, later),
-        Row::Three(a, b, c) => {
-            slot_reaches(binding, a, later)
-                || slot_reaches(binding, b, later)
-                || slot_reaches(binding, c, later)
-        }
-        Row::Four(a, b, c, d) => {
-            slot_reaches(binding, a, later)
-                || slot_reaches(binding, b, later)
-                || slot_reaches(binding, c, later)
-                || slot_reaches(binding, d, later)
-        }
-    }
+    slots.iter().any(|slot| slot_reaches(binding, *slot, later))
 }
 
 /// The first extension of the binding to a match, patterns from left to right and atoms by place. Where no further
@@ -72,7 +48,7 @@ fn find_from<S: Stock>(stock: &S, patterns: &[Pattern], binding: Binding) -> Opt
     let [first, later @ ..] = patterns else {
         return Some(binding);
     };
-    let again = pattern_reaches(binding, first, later);
+    let again = slots_reach(binding, first.terms.as_slice(), later);
     for place in 0..stock.len() {
         if let Some(atom) = stock.get(place) {
             if let Some(more) = fit(binding, first, &atom) {

@@ -14,13 +14,10 @@ use shelves::stock::Stock;
 fn atom_at<S: Stock>(stock: &S, index: usize, place: usize) -> Result<GroundAtom, Refusal>
     ensures { AtomAt (S.Stock.list stock.now) index place result }
 {
-    match stock.get(place) {
-        Some(atom) => Ok(atom),
-        None => Err(Refusal::PlacePastPile {
-            pattern: index,
-            place,
-        }),
-    }
+    stock.get(place).ok_or(Refusal::PlacePastPile {
+        pattern: index,
+        place,
+    })
 }
 
 /// The binding, extended so that the pattern of that index fits the atom at the place.
@@ -34,13 +31,10 @@ pub fn fit_at<S: Stock>(
     ensures { FittedAt (pile (S.Stock.list stock.now)) (bound binding) index (pattern_meant pattern.now) place (bound_or result) }
 {
     let atom = atom_at(stock, index, place)?;
-    match fit(binding, pattern, &atom) {
-        Some(more) => Ok(more),
-        None => Err(Refusal::AtomDoesNotFit {
-            pattern: index,
-            place,
-        }),
-    }
+    fit(binding, pattern, &atom).ok_or(Refusal::AtomDoesNotFit {
+        pattern: index,
+        place,
+    })
 }
 
 /// The one binding under which each pattern fits the atom at its place; else the least pattern index that fails.

@@ -1,6 +1,5 @@
 //! Whether an atom is a fact of a book.
 ghost use Rattle.atoms.specs.Meaning.{atom_meant};
-ghost use Rattle.short_rows.specs.Rows.{listed};
 ghost use Rattle.book.specs.Theory.{predicates_of};
 ghost use Rattle.chase.specs.Unfit.{IsConstant, FactOf};
 ghost use Rattle.semantics.specs.Subject.{numbered};
@@ -25,7 +24,7 @@ fn is_constant(term: Term) -> bool
 
 /// Whether each term is a constant.
 fn are_constants(terms: &Row<Term>) -> bool
-    ensures { Decides result (AllByRecursion IsConstant (map term_meant (listed terms.now))) }
+    ensures { Decides result (AllByRecursion IsConstant (map term_meant terms.now)) }
 {
     match *terms {
         Row::One(a) => is_constant(a),

@@ -1,7 +1,6 @@
 //! A filter that says of most atoms that they have not been met.
 ghost use Rattle.std.specs.Prelude.{◌≡◌, ◌<◌, true, false, map, length, slice_index_or, slice_set};
 ghost use Rattle.atoms.specs.Meaning.{atom_meant};
-ghost use Rattle.short_rows.specs.Rows.{listed};
 ghost use Rattle.openings.specs.Filters.{weights, weighed, slot_of};
 ghost use Rattle.terms.specs.Meaning.{term_meant};
 
@@ -25,7 +24,7 @@ fn number(term: Term) -> u64
 
 /// The terms, each times its weight.
 fn weight(terms: &Row<Term>) -> u64
-    ensures value { result ≡ weighed weights (map term_meant (listed terms.now)) }
+    ensures value { result ≡ weighed weights (map term_meant terms.now) }
     ensures bound { result < 1000000000000 }
 {
     match *terms {

@@ -6,10 +6,9 @@ use Rattle.semantics.specs.Subject.{Pattern, numbered}
 use Rattle.chase.specs.Chase.{Plain, PlainAll, PlainRule}
 use Rattle.chase.specs.Theorems.{Guarded}
 use Rattle.terms.specs.Meaning.{slot_meant}
-use Rattle.terms.specs.declared.term.PatternTerm.{PatternTerm}
-use Rattle.terms.specs.declared.term.PatternTerm.TheVariants as slot
+use Rattle.terms.specs.declared.pattern_term.PatternTerm.{PatternTerm}
+use Rattle.terms.specs.declared.pattern_term.PatternTerm.TheVariants as slot
 use Rattle.atoms.specs.Meaning.{pattern_meant}
-use Rattle.short_rows.specs.Rows.{listed}
 use Rattle.atoms.specs.declared.atom.Atom.{Atom}
 use Rattle.matching.proofs.Rounds.{nth_map}
 use Rattle.declarations.specs.Bodies.{patterns_listed, patterns_meant}
@@ -39,7 +38,7 @@ plain_slot (slot.Constant c) = omega arith
 plain_slot (slot.Variable v) = tt
 
 plain_pattern : (p : Atom PatternTerm) → AllByRecursion Plain (pattern_meant p).slots
-plain_pattern p = every_mapped Plain slot_meant plain_slot (listed p.terms)
+plain_pattern p = every_mapped Plain slot_meant plain_slot p.terms
 
 plain_patterns : (ps : Patterns) → PlainAll (patterns_meant ps)
 plain_patterns ps = every_mapped (λ (p : Pattern). AllByRecursion Plain p.slots) pattern_meant plain_pattern (patterns_listed ps)

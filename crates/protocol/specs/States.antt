@@ -1,7 +1,6 @@
 -- A checker as the plain things that its calls speak of.
 use Rattle.std.specs.Prelude.{◌≡◌, ℕ, ◌+◌, ◌-◌, ◌≤◌, ◌⊎◌, List, [], ◌∷◌, ◌++◌, map, length}
 use Rattle.semantics.specs.Subject.{Atom}
-use Rattle.short_rows.specs.Rows.{listed_or_none}
 use Rattle.reading.specs.declared.raw.RawAtom.{RawAtom}
 use Rattle.reading.specs.declared.raw.RawTerm.{RawTerm}
 use Rattle.reading.specs.declared.raw.RawTerm.TheVariants as raw
@@ -69,4 +68,4 @@ raw_number (raw.Variable v) = 0
 
 -- the atom that is written
 abbrev pub raw_meant : RawAtom → Atom
-raw_meant w = record { pred = w.predicate; terms = map raw_number (listed_or_none w.first) }
+raw_meant w = record { pred = w.predicate; terms = map raw_number (w.terms.first) }

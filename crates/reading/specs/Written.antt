@@ -1,13 +1,11 @@
 -- How terms are written, and what reads them back.
 use Rattle.std.specs.Prelude.{◌≡◌, ℕ, ◌+◌, List, map, take, Some, None, Ok, Err, Option, Result, ◌≢◌}
 use Rattle.std.specs.List.{slice_get, AllByRecursion}
-use Rattle.short_rows.specs.Rows.{listed}
-use Rattle.short_rows.specs.declared.row.Row.{Row}
 use Rattle.terms.specs.declared.constant.Constant.{Constant}
 use Rattle.terms.specs.declared.term.Term.{Term}
 use Rattle.terms.specs.declared.term.Term.TheVariants as ground_term
-use Rattle.terms.specs.declared.term.PatternTerm.{PatternTerm}
-use Rattle.terms.specs.declared.term.PatternTerm.TheVariants as slot
+use Rattle.terms.specs.declared.pattern_term.PatternTerm.{PatternTerm}
+use Rattle.terms.specs.declared.pattern_term.PatternTerm.TheVariants as slot
 use Rattle.reading.specs.declared.raw.RawTerm.{RawTerm}
 use Rattle.reading.specs.declared.raw.RawTerm.TheVariants as raw
 
@@ -42,6 +40,6 @@ module _ {T : Type 0} (written : T → RawTerm) where
   Readable w = (t : T) × (written t ≡ w)
 
   -- the values that are written so, or the lowest index at which none is
-  abbrev pub ReadsAll : List RawTerm → Result (Row T) ℕ → Type 0
-  ReadsAll ws (Ok row) = map written (listed row) ≡ ws
+  abbrev pub ReadsAll : List RawTerm → Result (List T) ℕ → Type 0
+  ReadsAll ws (Ok row) = map written row ≡ ws
   ReadsAll ws (Err i) = ((w : RawTerm) × (slice_get ws i ≡ Some w) × Unreadable w) × AllByRecursion Readable (take i ws)

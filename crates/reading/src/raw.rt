@@ -1,45 +1,33 @@
 //! Atoms as a caller writes them, unchecked.
-ghost use Rattle.std.specs.Prelude.{◌≡◌, ◌≤◌, min, length, take};
-ghost use Rattle.short_rows.specs.Rows.{listed_or_none};
+ghost use Rattle.std.specs.Prelude.{◌≡◌, [], length, MatchOption, min, take};
 
+use short_rows::first_four::FirstFour;
 use short_rows::row::Row;
 
 /// A term of any sort, with any number.
-#[derive(Clone, Copy)]
+#[derive(Clone, Copy, PartialEq, Eq, Debug)]
 pub enum RawTerm {
     Constant(u32),
     Null(u32),
     Variable(u32),
 }
 
-/// An atom with any predicate number and any number of terms, none included. Only the first four terms are kept, beside
-/// the number of all: no predicate takes more, so an atom of more is refused by their number alone.
-#[derive(Clone, Copy)]
+/// An atom with any predicate number and any number of terms, none included.
+#[derive(Clone, Copy, Debug)]
 pub struct RawAtom {
     predicate: usize,
-    count: usize,
-    first: Option<Row<RawTerm>>,
-    ghost kept: { length (listed_or_none first) ≡ min count 4 },
+    terms: FirstFour<RawTerm>,
 }
 
 impl RawAtom {
     pub fn new(predicate: usize, terms: &[RawTerm]) -> RawAtom
         ensures predicate { result.predicate ≡ predicate }
-        ensures count { result.count ≡ length terms.now }
-        ensures first { listed_or_none result.first ≡ take 4 terms.now }
+        ensures count { result.terms.count ≡ length terms.now }
+        ensures first { result.terms.first ≡ take 4 terms.now }
     {
-        let count = terms.len();
-        let first = match terms {
-            [] => None,
-            [a] => Some(Row::One(*a)),
-            [a, b] => Some(Row::Two(*a, *b)),
-            [a, b, c] => Some(Row::Three(*a, *b, *c)),
-            [a, b, c, d, ..] => Some(Row::Four(*a, *b, *c, *d)),
-        };
         RawAtom {
             predicate,
-            count,
-            first,
+            terms: FirstFour::new(terms),
         }
     }
 
@@ -52,15 +40,16 @@ impl RawAtom {
 
     /// How many terms were written.
     pub fn count(&self) -> usize
-        ensures { result ≡ self.now.count }
+        ensures { result ≡ self.now.terms.count }
     {
-        self.count
+        self.terms.count()
     }
 
     /// The first four of them, or nothing where there are none.
     pub fn first(&self) -> Option<Row<RawTerm>>
-        ensures { result ≡ self.now.first }
+        ensures row { MatchOption result (self.now.terms.first ≡ []) (λ row. row ≡ self.now.terms.first) }
+        ensures kept { length self.now.terms.first ≡ min self.now.terms.count 4 }
     {
-        self.first
+        self.terms.first()
     }
 }

@@ -1,6 +1,5 @@
 //! Reading raw terms as terms of a sort.
 ghost use Rattle.std.specs.Prelude.{Option};
-ghost use Rattle.short_rows.specs.Rows.{listed};
 ghost use Rattle.reading.specs.Written.{constant_written, term_written, slot_written, Reads, ReadsAt, ReadsAll};
 ghost use Rattle.reading.specs.declared.raw.RawTerm.{RawTerm};
 
@@ -8,7 +7,8 @@ use crate::raw::RawTerm;
 use short_rows::row::Row;
 use terms::constant::Constant;
 use terms::null::Null;
-use terms::term::{PatternTerm, Term};
+use terms::pattern_term::PatternTerm;
+use terms::term::Term;
 use terms::variable::Variable;
 
 /// What may stand as a term: of facts, of ground atoms or of patterns.
@@ -65,20 +65,9 @@ fn read_at<T: Sort>(raw: RawTerm, index: usize) -> Result<T, usize>
 }
 
 /// The terms that are written so; else the lowest index at which none is.
+#[tactic(auto, using(crate::proofs::Rowwise::tries_read))]
 pub fn read_row<T: Sort>(row: Row<RawTerm>) -> Result<Row<T>, usize>
-    ensures { ReadsAll T.Sort.written (listed row) result }
+    ensures { ReadsAll T.Sort.written row result }
 {
-    match row {
-        Row::One(a) => Ok(Row::One(read_at(a, 0)?)),
-        Row::Two(a, b) => Ok(Row::Two(read_at(a, 0)?, read_at(b, 1)?)),
-        Row::Three(a, b, c) => Ok(Row::Three(read_at(a, 0)?, read_at(b, 1)?, read_at(c, 2)?)),
-        Row::Four(a, b, c, d) => {
-            Ok(Row::Four(
-                read_at(a, 0)?,
-                read_at(b, 1)?,
-                read_at(c, 2)?,
-                read_at(d, 3)?,
-            ))
-        }
-    }
+    row.try_map(|index, raw| read_at(raw, index))
 }

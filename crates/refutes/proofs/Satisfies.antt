@@ -18,7 +18,7 @@ use Rattle.chase.proofs.Laws.{only_binding, guard_known}
 use Rattle.chase.proofs.Piles.{every_nth}
 use Rattle.atoms.specs.Meaning.{atom_meant, pattern_meant}
 use Rattle.atoms.specs.declared.atom.Atom.{Atom}
-use Rattle.terms.specs.declared.term.PatternTerm.{PatternTerm}
+use Rattle.terms.specs.declared.pattern_term.PatternTerm.{PatternTerm}
 use Rattle.terms.specs.declared.term.Term.{Term}
 use Rattle.declarations.specs.Bodies.{patterns_meant, patterns_listed}
 use Rattle.fitting.specs.Bindings.{bound}

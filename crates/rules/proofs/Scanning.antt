@@ -12,7 +12,7 @@ use Rattle.semantics.proofs.Guarding.{guards, no_guard}
 use Rattle.atoms.specs.Meaning.{pattern_meant}
 use Rattle.terms.specs.Meaning.{slot_meant}
 use Rattle.atoms.specs.declared.atom.Atom.{Atom}
-use Rattle.terms.specs.declared.term.PatternTerm.{PatternTerm}
+use Rattle.terms.specs.declared.pattern_term.PatternTerm.{PatternTerm}
 use Rattle.rules.specs.declared.rule.Rule.{Rule}
 use Rattle.declarations.specs.Bodies.{patterns_listed, patterns_meant}
 use Rattle.rules.specs.Rules.{FindsGuard}

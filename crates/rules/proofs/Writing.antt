@@ -9,7 +9,7 @@ use Rattle.atoms.specs.declared.atom.Atom.{Atom}
 use Rattle.reading.specs.declared.raw.RawAtom.{RawAtom}
 use Rattle.refusals.specs.declared.refusal.Refusal.{Refusal}
 use Rattle.refusals.specs.declared.refusal.Refusal.TheVariants.{NoGuard}
-use Rattle.terms.specs.declared.term.PatternTerm.{PatternTerm}
+use Rattle.terms.specs.declared.pattern_term.PatternTerm.{PatternTerm}
 use Rattle.declarations.specs.Bodies as bodies
 use Rattle.declarations.specs.Bodies.{OneToFour, Fine, FirstRefused, PatternsRefused, Pairwise, TakenAs, patterns_listed}
 use Rattle.declarations.specs.Checked.{AtomRefused}

@@ -4,7 +4,7 @@ use Rattle.semantics.specs.Computed.{guard}
 use Rattle.semantics.specs.Subject.{Slot, con, var, Pattern, in_slots}
 use Rattle.atoms.specs.Meaning.{pattern_meant}
 use Rattle.atoms.specs.declared.atom.Atom.{Atom}
-use Rattle.terms.specs.declared.term.PatternTerm.{PatternTerm}
+use Rattle.terms.specs.declared.pattern_term.PatternTerm.{PatternTerm}
 
 abbrev pub slots_meant : Atom PatternTerm → List Slot
 slots_meant p = (pattern_meant p).slots

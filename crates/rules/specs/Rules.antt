@@ -5,7 +5,7 @@ use Rattle.refusals.specs.Refusals.{Is}
 use Rattle.atoms.specs.declared.atom.Atom.{Atom}
 use Rattle.reading.specs.declared.raw.RawAtom.{RawAtom}
 use Rattle.refusals.specs.declared.refusal.Refusal.{Refusal}
-use Rattle.terms.specs.declared.term.PatternTerm.{PatternTerm}
+use Rattle.terms.specs.declared.pattern_term.PatternTerm.{PatternTerm}
 use Rattle.declarations.specs.Bodies.{patterns_listed, patterns_meant, Pairwise, OneToFour, TakenAs, FirstRefused}
 use Rattle.rules.specs.Covering.{guard_is}
 use Rattle.declarations.specs.declared.patterns.Patterns.{Patterns}

@@ -1,8 +1,7 @@
 -- What a blank record holds.
-use Rattle.std.proofs.Common.{lit≤}
+use Rattle.std.proofs.Common.{lit≤, [], ◌∷◌}
 use Rattle.atoms.specs.declared.atom.Atom.{Atom}
 use Rattle.terms.specs.declared.predicate.Predicate.{Predicate}
-use Rattle.short_rows.specs.declared.row.Row.TheVariants.{One}
 use Rattle.terms.specs.declared.constant.Constant as con
 use Rattle.terms.specs.declared.term.Term.{Term}
 use Rattle.terms.specs.declared.term.Term.TheVariants.{Constant}
@@ -17,4 +16,4 @@ first_constant = record { number = 1; low = lit≤ tt; high = lit≤ tt }
 
 -- predicate 1 with the one term constant 1
 abbrev pub blank_atom : Atom Term
-blank_atom = record { predicate = first_predicate; terms = One (Constant first_constant) }
+blank_atom = record { predicate = first_predicate; terms = Constant first_constant ∷ [] }

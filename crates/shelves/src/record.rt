@@ -20,7 +20,7 @@ impl Record {
         ensures { result.atom ≡ blank_atom }
     {
         let predicate = first_predicate();
-        let terms = Row::One(Term::Constant(first_constant()));
+        let terms = Row::one(Term::Constant(first_constant()));
         Record {
             atom: Atom { predicate, terms },
         }

@@ -7,7 +7,7 @@ use Rattle.semantics.proofs.Fitting.{some_is, none_some}
 use Rattle.chase.specs.Chase.{fresh, fresh_slot, fresh_var}
 use Rattle.rules.proofs.Scanning.{drop_at}
 use Rattle.terms.specs.Meaning.{slot_meant}
-use Rattle.terms.specs.declared.term.PatternTerm.{PatternTerm}
+use Rattle.terms.specs.declared.pattern_term.PatternTerm.{PatternTerm}
 use Rattle.fitting.specs.Bindings.{bound}
 use Rattle.steps.specs.Heads.{Freshened}
 use Rattle.steps.specs.declared.head.Fresh.{Fresh}

@@ -8,7 +8,8 @@ ghost use Rattle.std.specs.Prelude.{[], ◌∷◌};
 use atoms::atom::Pattern;
 use fitting::binding::Binding;
 use terms::null::Null;
-use terms::term::{PatternTerm, Term};
+use terms::pattern_term::PatternTerm;
+use terms::term::Term;
 
 /// A binding, and how many nulls are issued with it.
 #[derive(Clone, Copy)]

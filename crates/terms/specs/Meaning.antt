@@ -4,8 +4,8 @@ use Rattle.semantics.specs.Subject as subject
 use Rattle.terms.specs.declared.constant.Constant.{Constant}
 use Rattle.terms.specs.declared.term.Term.{Term}
 use Rattle.terms.specs.declared.term.Term.TheVariants as ground_term
-use Rattle.terms.specs.declared.term.PatternTerm.{PatternTerm}
-use Rattle.terms.specs.declared.term.PatternTerm.TheVariants as slot
+use Rattle.terms.specs.declared.pattern_term.PatternTerm.{PatternTerm}
+use Rattle.terms.specs.declared.pattern_term.PatternTerm.TheVariants as slot
 
 -- a constant is its own number, and null k is 1,000,000 + k
 abbrev pub term_meant : Term → ℕ

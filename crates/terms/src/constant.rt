@@ -1,10 +1,8 @@
 //! Constants.
-ghost use Rattle.std.specs.Prelude.{◌≡◌, ◌≤◌, Decides, MatchOption, ◌==◌};
-ghost use Rattle.std.specs.Cmp.Rules.{comparing};
-ghost use Rattle.std.proofs.Common.{rules};
+ghost use Rattle.std.specs.Prelude.{◌≡◌, ◌≤◌, MatchOption};
 
 /// A constant: a number from 1 to 999,999.
-#[derive(Clone, Copy)]
+#[derive(Clone, Copy, PartialEq, Eq, Debug)]
 pub struct Constant {
     number: u32,
     ghost low: { 1 ≤ number },
@@ -27,25 +25,5 @@ impl Constant {
         ensures { result ≡ self.number }
     {
         self.number
-    }
-
-    /// Whether the numbers are the same.
-    fn agrees(self, other: Constant) -> bool
-        ensures { result ≡ (other.number == self.number) }
-    {
-        other.number == self.number
-    }
-}
-
-impl PartialEq for Constant {
-    ghost eq = { λ x y. y.number == x.number };
-
-    ghost laws = { Prim.search (comparing, rules) };
-
-    fn eq(&self, other: &Constant) -> bool
-        ensures value { result ≡ (other.now.number == self.now.number) }
-        ensures same { Decides result (self.now ≡ other.now) }
-    {
-        self.agrees(*other)
     }
 }

@@ -2,7 +2,9 @@
 #![tactic(auto)]
 
 pub mod constant;
+mod exactness;
 pub mod null;
+pub mod pattern_term;
 pub mod predicate;
 pub mod slot;
 pub mod term;

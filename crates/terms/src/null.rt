@@ -1,10 +1,8 @@
 //! Nulls.
-ghost use Rattle.std.specs.Prelude.{◌≡◌, ◌≤◌, Decides, MatchOption, ◌==◌};
-ghost use Rattle.std.specs.Cmp.Rules.{comparing};
-ghost use Rattle.std.proofs.Common.{rules};
+ghost use Rattle.std.specs.Prelude.{◌≡◌, ◌≤◌, MatchOption};
 
 /// A null: with a number k from 0 to 999,999 it is the thing numbered 1,000,000 + k.
-#[derive(Clone, Copy)]
+#[derive(Clone, Copy, PartialEq, Eq, Debug)]
 pub struct Null {
     number: u32,
     ghost high: { number ≤ 999999 },
@@ -26,25 +24,5 @@ impl Null {
         ensures { result ≡ self.number }
     {
         self.number
-    }
-
-    /// Whether the numbers are the same.
-    fn agrees(self, other: Null) -> bool
-        ensures { result ≡ (other.number == self.number) }
-    {
-        other.number == self.number
-    }
-}
-
-impl PartialEq for Null {
-    ghost eq = { λ x y. y.number == x.number };
-
-    ghost laws = { Prim.search (comparing, rules) };
-
-    fn eq(&self, other: &Null) -> bool
-        ensures value { result ≡ (other.now.number == self.now.number) }
-        ensures same { Decides result (self.now ≡ other.now) }
-    {
-        self.agrees(*other)
     }
 }

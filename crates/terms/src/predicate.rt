@@ -1,10 +1,8 @@
 //! The numbers of predicates.
-ghost use Rattle.std.specs.Prelude.{◌≡◌, ◌≤◌, Decides, MatchOption, ◌==◌};
-ghost use Rattle.std.specs.Cmp.Rules.{comparing};
-ghost use Rattle.std.proofs.Common.{rules};
+ghost use Rattle.std.specs.Prelude.{◌≡◌, ◌≤◌, MatchOption};
 
 /// A predicate: a number from 1 to 64.
-#[derive(Clone, Copy)]
+#[derive(Clone, Copy, PartialEq, Eq, Debug)]
 pub struct Predicate {
     number: u8,
     ghost low: { 1 ≤ number },
@@ -29,25 +27,5 @@ impl Predicate {
         ensures { result ≡ self.number }
     {
         self.number as usize
-    }
-
-    /// Whether the numbers are the same.
-    fn agrees(self, other: Predicate) -> bool
-        ensures { result ≡ (other.number == self.number) }
-    {
-        other.number == self.number
-    }
-}
-
-impl PartialEq for Predicate {
-    ghost eq = { λ x y. y.number == x.number };
-
-    ghost laws = { Prim.search (comparing, rules) };
-
-    fn eq(&self, other: &Predicate) -> bool
-        ensures value { result ≡ (other.now.number == self.now.number) }
-        ensures same { Decides result (self.now ≡ other.now) }
-    {
-        self.agrees(*other)
     }
 }

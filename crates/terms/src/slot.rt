@@ -3,7 +3,7 @@ ghost use Rattle.std.specs.Prelude.{◌≡◌, suc};
 ghost use Rattle.semantics.specs.Subject.{is_var};
 ghost use Rattle.terms.specs.Meaning.{slot_meant};
 
-use crate::term::PatternTerm;
+use crate::pattern_term::PatternTerm;
 use crate::variable::Variable;
 
 impl PatternTerm {

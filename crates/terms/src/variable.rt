@@ -1,10 +1,8 @@
 //! Variables.
-ghost use Rattle.std.specs.Prelude.{◌≡◌, ◌+◌, ◌≤◌, Decides, MatchOption, ◌==◌};
-ghost use Rattle.std.specs.Cmp.Rules.{comparing};
-ghost use Rattle.std.proofs.Common.{rules};
+ghost use Rattle.std.specs.Prelude.{◌≡◌, ◌+◌, ◌≤◌, MatchOption};
 
 /// One of the variables v1 to v8, by its index from 0.
-#[derive(Clone, Copy)]
+#[derive(Clone, Copy, PartialEq, Eq, Debug)]
 pub struct Variable {
     index: u8,
     ghost high: { index ≤ 7 },
@@ -37,25 +35,5 @@ impl Variable {
         ensures bound { result ≤ 7 }
     {
         self.index as usize
-    }
-
-    /// Whether the numbers are the same.
-    fn agrees(self, other: Variable) -> bool
-        ensures { result ≡ (other.index == self.index) }
-    {
-        other.index == self.index
-    }
-}
-
-impl PartialEq for Variable {
-    ghost eq = { λ x y. y.index == x.index };
-
-    ghost laws = { Prim.search (comparing, rules) };
-
-    fn eq(&self, other: &Variable) -> bool
-        ensures value { result ≡ (other.now.index == self.now.index) }
-        ensures same { Decides result (self.now ≡ other.now) }
-    {
-        self.agrees(*other)
     }
 }

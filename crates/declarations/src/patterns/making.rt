@@ -8,7 +8,7 @@ use crate::patterns::Patterns;
 use atoms::atom::Pattern;
 use reading::raw::RawAtom;
 use refusals::refusal::Refusal;
-use terms::term::PatternTerm;
+use terms::pattern_term::PatternTerm;
 
 impl Patterns {
     pub fn as_slice(&self) -> &[Pattern]

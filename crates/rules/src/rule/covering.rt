@@ -8,7 +8,7 @@ ghost use Rattle.std.specs.Prelude.{◌≡◌, map};
 
 use atoms::atom::Pattern;
 use declarations::patterns::Patterns;
-use terms::term::PatternTerm;
+use terms::pattern_term::PatternTerm;
 
 /// Whether the term is a constant, or a variable of the pattern.
 fn covered(term: PatternTerm, pattern: &Pattern) -> bool

@@ -9,6 +9,6 @@ returns-then-ne c =
       same = c.drop-trial.ensures;
       answer = (
         λ e. absurd (false≢true e),
-        λ f. absurd (false≢true (sym (other ∙ ap not (eq-eqb _ _ (sym f.2.0))))),
+        λ f. absurd (false≢true (sym (other ∙ ap not (eq-eqb _ _ f.2.0)))),
       );
     }

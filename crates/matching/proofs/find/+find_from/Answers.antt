@@ -1,9 +1,10 @@
-use Rattle.std.proofs.Common.{◌≡◌, ◌-◌, ◌<◌, ◌≤◌, true, false, ◌⊎◌, length, take, drop, is_some, Some, sym, ap, ◌∙◌, inl, inr, arith, rules}
+use Rattle.std.proofs.Common.{◌≡◌, ◌-◌, ◌<◌, ◌≤◌, true, false, ◌⊎◌, length, map, take, drop, is_some, Some, sym, ap, ◌∙◌, inl, inr, arith, rules}
 use Rattle.std.specs.List.{slice_get}
 use Rattle.std.specs.Option.{option_map}
 use Rattle.std.proofs.lemmas.List.{length-map}
 use Rattle.semantics.specs.Computed.{first_match as found, fit, and_then, reaches}
 use Rattle.atoms.specs.Meaning.{atom_meant, pattern_meant}
+use Rattle.terms.specs.Meaning.{slot_meant}
 use Rattle.fitting.specs.Bindings.{bound}
 use Rattle.matching.specs.Searches.{pile, patterns_meant}
 use Rattle.matching.proofs.Rounds.{past, over, nth_map, split, goes_on, ends, no_fit, none_long, mapped_some}
@@ -25,10 +26,11 @@ returns-then-is_some g t c =
     let xs = g.S.Stock.list c.args.stock.now in
     let later = take (length c.args.patterns.now - 1) (drop 1 c.args.patterns.now) in
     let there : slice_get (pile xs) c.loop-place.place ≡ Some (atom_meant c.in-Some.atom) = nth_map atom_meant xs c.loop-place.place ∙ ap (option_map atom_meant) (sym c.in-Some.ensures) in
+    let reached : reaches (bound c.args.binding) (pattern_meant c.first-item.result).slots (patterns_meant later) ≡ reaches (bound c.args.binding) (map slot_meant c.as_slice.result.now) (patterns_meant later) = ap (λ ss. reaches (bound c.args.binding) (map slot_meant ss) (patterns_meant later)) (sym c.as_slice.ensures.value) in
     let why : (is_some (option_map bound c.find_from-found.result) ≡ true) ⊎ (reaches (bound c.args.binding) (pattern_meant c.first-item.result).slots (patterns_meant later) ≡ false) =
     elim c.then-is_some.branch [
       | then-is_some-via-then-is_some w ↦ inl (mapped_some bound c.find_from-found.result ∙ sym c.is_some.ensures ∙ w.if-is_some.true)
-      | then-is_some-via-else-is_some+then-not-again w ↦ inr (sym c.pattern_reaches-again.ensures ∙ w.if-not-again.true)
+      | then-is_some-via-else-is_some+then-not-again w ↦ inr (reached ∙ sym c.slots_reach-again.ensures ∙ w.if-not-again.true)
     ] in
     ends (pile xs) (bound c.args.binding) (pattern_meant c.first-item.result) (patterns_meant later) c.loop-place.place (atom_meant c.in-Some.atom) there (bound c.in-Some-fit.more) c.in-Some-fit.ensures.value (option_map bound c.find_from-found.result) c.find_from-found.ensures why
     ∙ c.loop-place.invariant

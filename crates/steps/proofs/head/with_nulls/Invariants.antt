@@ -1,10 +1,9 @@
 use Rattle.std.proofs.Common.{◌≡◌, map, drop}
 use Rattle.chase.specs.Chase.{fresh}
-use Rattle.short_rows.specs.Rows.{listed}
 use Rattle.terms.specs.Meaning.{slot_meant}
 use Rattle.fitting.specs.Bindings.{bound}
 use Rattle.steps.proofs.head.with_nulls.Given as goal
 
 -- what is left gives the whole
 abbrev pub invariant-loop-i : goal.invariant-loop-i
-invariant-loop-i l = fresh (bound l.now_fresh.binding) l.now_fresh.nulls (map slot_meant (drop l.i (listed l.head.terms))) ≡ fresh (bound l.initial.now_fresh.binding) l.initial.now_fresh.nulls (map slot_meant (listed l.head.terms))
+invariant-loop-i l = fresh (bound l.now_fresh.binding) l.now_fresh.nulls (map slot_meant (drop l.i l.head.terms)) ≡ fresh (bound l.initial.now_fresh.binding) l.initial.now_fresh.nulls (map slot_meant l.head.terms)

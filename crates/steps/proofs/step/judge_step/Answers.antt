@@ -10,7 +10,7 @@ use Rattle.semantics.proofs.Fitting.{some_is}
 use Rattle.semantics.proofs.Guarding.{guards}
 use Rattle.atoms.specs.Meaning.{pattern_meant}
 use Rattle.atoms.specs.declared.atom.Atom.{Atom}
-use Rattle.terms.specs.declared.term.PatternTerm.{PatternTerm}
+use Rattle.terms.specs.declared.pattern_term.PatternTerm.{PatternTerm}
 use Rattle.fitting.specs.Bindings.{bound, bound_or}
 use Rattle.matching.specs.Places.{NotFitted, FittedAt}
 use Rattle.matching.specs.Searches.{pile}

@@ -2,7 +2,6 @@ use Rattle.std.proofs.Common.{map, sym, ◌∙◌, arith}
 use Rattle.semantics.specs.Computed.{covers}
 use Rattle.std.proofs.lemmas.List.{at_drop_all}
 use Rattle.terms.specs.Meaning.{slot_meant}
-use Rattle.short_rows.specs.Rows.{listed}
 use Rattle.rules.specs.Covering.{slots_meant}
 use Rattle.rules.proofs.Scanning.{covers_more, nth_within}
 use Rattle.rules.proofs.rule.covering.covers.Goals as goal
@@ -10,7 +9,7 @@ use Rattle.rules.proofs.rule.covering.covers.Goals.{in-Some+else-not-covered, in
 
 pub loop-i-preserved : goal.loop-i-preserved
 loop-i-preserved c =
-    let ts = listed c.args.other.now.terms in
+    let ts = c.args.other.now.terms in
     elim c.match-get.branch [
       | in-Some+else-not-covered w ↦ covers_more ts c.loop-i.i w.in-Some.term (slots_meant c.args.pattern.now) (sym c.get.ensures ∙ w.in-Some.is) (sym w.covered.ensures ∙ w.if-not-covered.false) ∙ c.loop-i.invariant
       | in_default w ↦ absurd (nth_within ts c.loop-i.i (sym c.get.ensures ∙ w.in_default.is) (omega arith))
@@ -18,4 +17,4 @@ loop-i-preserved c =
 
 pub returns : goal.returns
 returns c =
-    sym (at_drop_all (λ us. covers (map slot_meant us) (slots_meant c.args.pattern.now)) (listed c.args.other.now.terms) c.loop-i.i (omega arith)) ∙ c.loop-i.invariant
+    sym (at_drop_all (λ us. covers (map slot_meant us) (slots_meant c.args.pattern.now)) c.args.other.now.terms c.loop-i.i (omega arith)) ∙ c.loop-i.invariant

@@ -1,0 +1,4 @@
+//! Equality that tells any two values apart.
+#![tactic(auto)]
+
+pub mod equality;
