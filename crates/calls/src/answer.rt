@@ -25,10 +25,9 @@ pub enum Verdict {
     },
 }
 
-/// Which check is open, and of which query.
+/// A check, and the query that it is of.
 #[derive(Clone, Copy, PartialEq, Eq, Debug)]
 pub enum Check {
-    Shut,
     Derivation(usize),
     Model(usize),
 }

@@ -1,35 +1,24 @@
-//! Calls of a list, with the slot of the slip that each is made under.
+//! Calls of a list.
 use crate::places::Places;
 use reading::raw::RawAtom;
 
-/// A call to be made. A slot is a place in a pool of slips.
+/// A call to be made.
 #[derive(Clone, Copy)]
 pub enum Call {
     Lodge(RawAtom),
     OpenDerivation(usize),
     OpenModel(usize),
-    Step {
-        slot: usize,
-        rule: usize,
-        place: usize,
-    },
-    Add {
-        slot: usize,
-        atom: RawAtom,
-    },
-    Claim {
-        slot: usize,
-        places: Places,
-    },
-    Clash {
-        slot: usize,
-        constraint: usize,
-        places: Places,
-    },
-    Refute {
-        slot: usize,
-    },
-    Strike {
-        slot: usize,
-    },
+    /// A call under the slip in that slot of a pool of slips.
+    Under { slot: usize, call: SlipCall },
+}
+
+/// A call that is made under a slip.
+#[derive(Clone, Copy)]
+pub enum SlipCall {
+    Step { rule: usize, place: usize },
+    Add(RawAtom),
+    Claim(Places),
+    Clash { constraint: usize, places: Places },
+    Refute,
+    Strike,
 }

@@ -1,49 +1,29 @@
 -- How a checker's state follows what its overlay does.
-use Rattle.std.proofs.Common.{◌≡◌, ℕ, ◌+◌, ◌-◌, ◌*◌, ◌<◌, ◌≤◌, min, Bool, true, ◌⊎◌, List, [], ◌∷◌, ◌++◌, map, length, take, Ok, Err, sym, refl, ap, ◌∙◌, subst, inl, inr, ⊎_elim, arith}
-use mathlib.Core.HLevel.{is_prop→PathP}
-use mathlib.Core.Bool.{Bool-set}
-use native.Mathlib.Bridge.{le_prop}
-use Rattle.std.proofs.lemmas.List.{map-append, length-map}
+use Rattle.std.proofs.Common.{◌≡◌, ℕ, ◌+◌, ◌-◌, ◌*◌, ◌<◌, ◌≤◌, min, Option, ◌⊎◌, List, [], ◌∷◌, ◌++◌, map, length, take, Ok, Err, Result, sym, refl, ap, ◌∙◌, subst, inl, inr, ⊎_elim, arith}
+use Rattle.std.specs.Result.{result_or}
+use Rattle.std.proofs.lemmas.List.{map-append, length-map, length_push}
 use Rattle.std.proofs.lemmas.Bool.{cases_lt}
 use Rattle.semantics.specs.Subject as subject
 use Rattle.atoms.specs.Meaning.{atom_meant}
 use Rattle.atoms.specs.declared.atom.Atom.{Atom}
 use Rattle.terms.specs.declared.term.Term.{Term}
-use Rattle.book.specs.Tables.{entries}
 use Rattle.book.specs.declared.book.Book.{Book}
 use Rattle.calls.specs.declared.answer.Check.{Check}
 use Rattle.matching.specs.Searches.{pile}
 use Rattle.overlays.specs.Stacked.{stacked, spare, Lowers, Owned}
 use Rattle.overlays.specs.declared.overlay.Overlay.{Overlay}
-use Rattle.overlays.proofs.Stacks.{top_empty, top_is}
+use Rattle.overlays.specs.declared.overlay.NotLowered.{NotLowered}
+use Rattle.overlays.specs.declared.overlay.NotLowered.TheVariants.{NotEmpty, Full as NoRoom}
+use Rattle.overlays.proofs.Stacks.{take_none, stacked_is}
 use Rattle.shelves.specs.Puts.{Puts}
-use Rattle.shelves.specs.Rows.{front}
-use Rattle.shelves.specs.declared.placed.Placed.{Placed}
-use Rattle.shelves.specs.declared.placed.Placed.TheVariants.{Already, Full as NoRoom, At}
+use Rattle.shelves.specs.Rows.{atom_of}
+use Rattle.shelves.specs.declared.taken.Full as room
+use Rattle.shelves.specs.declared.taken.Taken.{Taken}
+use Rattle.shelves.specs.declared.taken.Taken.TheVariants.{Already, At}
 use Rattle.steps.proofs.Standing.{has_on, on_has}
 use Rattle.protocol.specs.States.{State, Full}
 use Rattle.checker.specs.Parts.{FactPut, AtomPut}
-use Rattle.checker.specs.Shapes.{query_known, own_known}
-use Rattle.checker.specs.declared.checker.Checker.{Checker}
-
--- how many nulls are issued after a put: those that go with a new atom
-abbrev pub nulls_then : Placed → ℕ → ℕ → ℕ
-nulls_then Already m v = m
-nulls_then NoRoom m v = m
-nulls_then (At q) m v = v
-
--- what is true of every checker has one proof at most
-pub same_checker : {S : Type 0} (c d : Checker S) → c.book ≡ d.book → c.pile ≡ d.pile → c.number ≡ d.number → c.check ≡ d.check → c.nulls ≡ d.nulls → c ≡ d
-same_checker c d b p n k m = λ i. record {
-  book = b i;
-  pile = p i;
-  number = n i;
-  check = k i;
-  nulls = m i;
-  asked = is_prop→PathP (λ j. query_known (length (entries (b j).queries)) (k j) ≡ true) (λ j. Bool-set _ _) c.asked d.asked i;
-  idle = is_prop→PathP (λ j. own_known (p j).own.count (k j) ≡ true) (λ j. Bool-set _ _) c.idle d.idle i;
-  few = is_prop→PathP (λ j. m j ≤ 4 * (p j).own.count) (λ j. le_prop) c.few d.few i;
-}
+use Rattle.checker.specs.Seen.{state_of}
 
 pub pile_push : (xs : List (Atom Term)) (a : Atom Term) → pile (xs ++ a ∷ []) ≡ pile xs ++ atom_meant a ∷ []
 pile_push xs a = map-append atom_meant xs (a ∷ [])
@@ -51,75 +31,60 @@ pile_push xs a = map-append atom_meant xs (a ∷ [])
 -- the pile is the facts, then atoms of the overlay's own
 pub pile_splits : {S : Type 0} (list : S → List (Atom Term)) (o : Overlay S) → length (list o.below) ≤ 1000000 → (own : List subject.Atom) × (pile (stacked list o) ≡ pile (list o.below) ++ own)
 pile_splits list o short =
-    let fits : o.own.count ≤ length o.own.rows = omega (arith, o.own.few, o.own.long) in
-    let n = min o.own.count (1000000 - length (list o.below)) in
-    (pile (front n o.own.rows), ap pile (top_is 1000000 (list o.below) o.own.count o.own.rows short fits) ∙ map-append atom_meant (list o.below) (front n o.own.rows))
+    (_, ap pile (stacked_is 1000000 (list o.below) o.own.items short) ∙ map-append atom_meant (list o.below) _)
 
-module _ {S : Type 0} (list : S → List (Atom Term)) (free : S → ℕ) (b : Book) (n : ℕ) (k : Check) where
-  -- the state, by its overlay and nulls
-  abbrev pub seen : Overlay S → ℕ → State
-  seen o m = record { book = b; number = n; facts = pile (list o.below); free = free o.below; pile = pile (stacked list o); added = o.own.count; nulls = m; check = k }
+module _ {S : Type 0} (list : S → List (Atom Term)) (free : S → ℕ) (b : Book) (n : ℕ) (check : Option Check) where
+  abbrev seen : Overlay S → ℕ → State
+  seen = state_of list free b n check
 
-  pub fact_put : (o p : Overlay S) (m : ℕ) (a : Atom Term) (r : Placed) → length (list p.below) ≤ 1000000 → Lowers list free o a (Ok r) p → FactPut (seen o m) (atom_meant a) r (seen p m)
-  fact_put o p m a Already short (none, (has, same, left), own, full) = (
+  pub fact_put : (o p : Overlay S) (m : ℕ) (a : Atom Term) (r : Result Taken NotLowered) → length o.own.items ≡ 0 → length (list p.below) ≤ 1000000 → Lowers list free o a r p → FactPut (seen o m) (atom_meant a) (result_or r (Err (record {}))) (seen p m)
+  fact_put o p m a (Ok Already) idle short (none, (has, same, left), own) = (
     has_on (list o.below) a has,
-    λ i. record { book = b; number = n; facts = pile (same i); free = left i; pile = pile (take 1000000 (same i ++ front (own i).count (own i).rows)); added = (own i).count; nulls = m; check = k },
+    λ i. record { book = b; number = n; facts = pile (same i); free = left i; pile = pile (take 1000000 (same i ++ map atom_of (own i).items)); added = length (own i).items; nulls = m; check = check },
   )
-  fact_put o p m a NoRoom short (none, (new, no_room, same, left), own, full) = (
-    λ on. new (on_has (list o.below) a on),
-    no_room,
-    λ i. record { book = b; number = n; facts = pile (same i); free = left i; pile = pile (take 1000000 (same i ++ front (own i).count (own i).rows)); added = (own i).count; nulls = m; check = k },
-  )
-  fact_put o p m a (At q) short (none, (new, place, more, left), own, full) =
+  fact_put o p m a (Ok (At q)) idle short (none, (new, place, more, left), own) =
       let facts : pile (list p.below) ≡ pile (list o.below) ++ atom_meant a ∷ [] = ap pile more ∙ pile_push (list o.below) a in
       let less : free p.below ≡ free o.below - 1 = omega arith in
-      let empty : p.own.count ≡ 0 = ap (λ w. w.count) own ∙ none in
-      let whole : pile (stacked list p) ≡ pile (list o.below) ++ atom_meant a ∷ [] = ap pile (top_empty 1000000 (list p.below) p.own.count p.own.rows short empty) ∙ facts in (
+      let empty : p.own.items ≡ [] = ap (λ w. w.items) own ∙ none in
+      let whole : pile (stacked list p) ≡ pile (list o.below) ++ atom_meant a ∷ [] = ap (λ rs. pile (take 1000000 (list p.below ++ map atom_of rs))) empty ∙ ap pile (take_none 1000000 (list p.below) short) ∙ facts in (
         λ on. new (on_has (list o.below) a on),
         omega arith,
         place ∙ sym (length-map (list o.below) atom_meant),
-        λ i. record { book = b; number = n; facts = facts i; free = less i; pile = whole i; added = (own i).count; nulls = m; check = k },
+        λ i. record { book = b; number = n; facts = facts i; free = less i; pile = whole i; added = length (own i).items; nulls = m; check = check },
       )
+  fact_put o p m a (Err NoRoom) idle short (none, new, no_room, same) =
+      (λ on. new (on_has (list o.below) a on), no_room, λ i. seen (same i) m)
+  fact_put o p m a (Err (NotEmpty c)) idle short (some, count, same) = absurd (omega arith)
 
   -- no room in the overlay is what the state calls full
   full_is : (o : Overlay S) (m : ℕ) → spare list o ≡ 0 → Full (seen o m)
   full_is o m e =
       let long = length-map (stacked list o) atom_meant in
-      elim (cases_lt o.own.count 256) [ inl l ↦ inr (omega (arith, l, long, e)) | inr l ↦ inl l ]
+      elim (cases_lt (length o.own.items) 256) [ inl l ↦ inr (omega (arith, l, long, e)) | inr l ↦ inl l ]
 
   full_not : (o : Overlay S) (m : ℕ) → 0 < spare list o → Full (seen o m) → ⊥
   full_not o m h (inl l) = omega arith
   full_not o m h (inr l) = omega (arith, length-map (stacked list o) atom_meant, h, l)
 
-  atom_put : (o p : Overlay S) (m v : ℕ) (a : Atom Term) (r : Placed) → Puts (stacked list o) (spare list o) a r (stacked list p) (spare list p) → p.below ≡ o.below → Owned o.own a r p.own → AtomPut (seen o m) (atom_meant a) v r (seen p (nulls_then r m v))
-  atom_put o p m v a Already (has, same, left) below own = (
-    has_on (stacked list o) a has,
-    λ i. record { book = b; number = n; facts = pile (list (below i)); free = free (below i); pile = pile (same i); added = (own i).count; nulls = m; check = k },
-  )
-  atom_put o p m v a NoRoom (new, no_room, same, left) below own = (
-    λ on. new (on_has (stacked list o) a on),
-    full_is o m no_room,
-    λ i. record { book = b; number = n; facts = pile (list (below i)); free = free (below i); pile = pile (same i); added = (own i).count; nulls = m; check = k },
-  )
-  atom_put o p m v a (At q) (new, place, more, left) below own =
-      let whole : pile (stacked list p) ≡ pile (stacked list o) ++ atom_meant a ∷ [] = ap pile more ∙ pile_push (stacked list o) a in (
-        λ on. new (on_has (stacked list o) a on),
-        full_not o m (omega arith),
-        place ∙ sym (length-map (stacked list o) atom_meant),
-        λ i. record { book = b; number = n; facts = pile (list (below i)); free = free (below i); pile = whole i; added = own.1 i; nulls = v; check = k },
-      )
+  -- a new atom in the overlay: v nulls are issued then
+  module _ (o p : Overlay S) (m v : ℕ) (a : Atom Term) where
+    pub atom_new : (r : Taken) (q : ℕ) → r ≡ At q → Puts (stacked list o) (spare list o) a (Ok r) (stacked list p) (spare list p) → p.below ≡ o.below → Owned o.own a (Ok r) p.own → AtomPut (seen o m) (atom_meant a) v (Ok r) (seen p v)
+    atom_new Already q e puts below own = cc
+    atom_new (At k) q e (new, place, more, left) below own =
+        let whole : pile (stacked list p) ≡ pile (stacked list o) ++ atom_meant a ∷ [] = ap pile more ∙ pile_push (stacked list o) a in
+        let longer : length p.own.items ≡ length o.own.items + 1 = ap length own ∙ length_push _ _ in (
+          λ on. new (on_has (stacked list o) a on),
+          full_not o m (omega arith),
+          place ∙ sym (length-map (stacked list o) atom_meant),
+          λ i. record { book = b; number = n; facts = pile (list (below i)); free = free (below i); pile = whole i; added = longer i; nulls = v; check = check },
+        )
 
-  module _ (o p : Overlay S) (m v : ℕ) (a : Atom Term) (r : Placed) (puts : Puts (stacked list o) (spare list o) a r (stacked list p) (spare list p)) (below : p.below ≡ o.below) (own : Owned o.own a r p.own) where
-    pub atom_put_new : (q : ℕ) → r ≡ At q → AtomPut (seen o m) (atom_meant a) v r (seen p v)
-    atom_put_new q e = subst (λ w. AtomPut (seen o m) (atom_meant a) v r (seen p w)) (ap (λ (w : Placed). nulls_then w m v) e) (atom_put o p m v a r puts below own)
+    pub atom_old : (r : Taken) → ((q : ℕ) → r ≡ At q → ⊥) → Puts (stacked list o) (spare list o) a (Ok r) (stacked list p) (spare list p) → p.below ≡ o.below → Owned o.own a (Ok r) p.own → AtomPut (seen o m) (atom_meant a) v (Ok r) (seen p m)
+    atom_old (At q) old puts below own = absurd (old q refl)
+    atom_old Already old (has, same, left) below own = (
+      has_on (stacked list o) a has,
+      λ i. record { book = b; number = n; facts = pile (list (below i)); free = free (below i); pile = pile (same i); added = length (own i).items; nulls = m; check = check },
+    )
 
-    pub atom_put_old : ((q : ℕ) → r ≡ At q → ⊥) → AtomPut (seen o m) (atom_meant a) v r (seen p m)
-    atom_put_old old = subst (λ w. AtomPut (seen o m) (atom_meant a) v r (seen p w)) (kept r old) (atom_put o p m v a r puts below own)
-      where
-        kept : (w : Placed) → ((q : ℕ) → w ≡ At q → ⊥) → nulls_then w m v ≡ m
-        kept Already h = refl
-        kept NoRoom h = refl
-        kept (At q) h = absurd (h q refl)
-
-pub not_full : {X : Type 0} (r : Placed) (q : ℕ) → r ≡ At q → r ≡ NoRoom → X
-not_full r q e f = let z : ◌≡◌ {A = ℕ} 0 1 = cc in absurd (omega arith)
+    pub atom_full : (full : room.Full) → Puts (stacked list o) (spare list o) a (Err full) (stacked list p) (spare list p) → p ≡ o → AtomPut (seen o m) (atom_meant a) v (Err full) (seen p m)
+    atom_full full (new, no_room, same, left) is = (λ on. new (on_has (stacked list o) a on), full_is o m no_room, λ i. seen (is i) m)

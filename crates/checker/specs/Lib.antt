@@ -1,3 +1,4 @@
 pub mod Parts
+pub mod Seen
 pub mod Shapes
 pub mod Views

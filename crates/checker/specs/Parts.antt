@@ -1,5 +1,5 @@
 -- What the parts of calls answer and leave.
-use Rattle.std.specs.Prelude.{◌≡◌, ℕ, ◌+◌, ◌<◌, ◌≤◌, true, ◌&&◌, List, length, Some, None, Ok, Err, Result, nat_le}
+use Rattle.std.specs.Prelude.{◌≡◌, ℕ, ◌+◌, ◌<◌, ◌≤◌, List, length, Some, None, Ok, Err, Result}
 use Rattle.semantics.specs.Subject as subject
 use Rattle.semantics.specs.Subject.{Pattern, On, numbered}
 use Rattle.terms.specs.declared.term.Term.{Term}
@@ -10,17 +10,21 @@ use Rattle.reading.specs.declared.raw.RawAtom.{RawAtom}
 use Rattle.refusals.specs.Refusals.{Is}
 use Rattle.refusals.specs.declared.refusal.Refusal.{Refusal}
 use Rattle.declarations.specs.Checked.{AtomRefused}
-use Rattle.shelves.specs.declared.placed.Placed.{Placed}
-use Rattle.shelves.specs.declared.placed.Placed.TheVariants.{Already, Full as NoRoom, At}
-use Rattle.book.specs.Tables.{entries}
+use Rattle.shelves.specs.declared.taken.Full as room
+use Rattle.shelves.specs.declared.taken.Taken.{Taken}
+use Rattle.shelves.specs.declared.taken.Taken.TheVariants.{Already, At}
 use Rattle.book.specs.Theory.{predicates_of, rules_of, constraints_of}
+use Rattle.calls.specs.declared.answer.Check.{Check}
 use Rattle.calls.specs.declared.answer.Verdict.{Verdict}
 use Rattle.calls.specs.declared.answer.Verdict.TheVariants.{Entailed, Inconsistent, NotEntailed}
 use Rattle.calls.specs.declared.places.Places.{Places}
 use Rattle.chase.specs.Refuting.{Refutes}
 use Rattle.chase.specs.Unfit.{FirstUnfit}
 use Rattle.steps.specs.declared.step.Head.{Head}
-use Rattle.protocol.specs.States.{State, with_fact, with_atom, Full, OwnDerivation, OwnModel, ForeignDerivation, ForeignModel, raw_meant}
+use Rattle.protocol.specs.States.{State, closed, with_fact, with_atom, Full, Own, Foreign, OwnDerivation, OwnModel, raw_meant}
+use Rattle.checker.specs.Seen.{Seen}
+use Rattle.checker.specs.Shapes.{Known}
+use Rattle.checker.specs.declared.slip.Returned.{Returned}
 use Rattle.protocol.specs.Calls.{Idle, Asks, WrittenFact, WrittenAtom, NotLodged, NotOpened, Yields, NotStepped, NotAdded, Shown, Unshown, NotClaimed, NotClashed, NotAccepted}
 
 -- the fact that is written, as a ground atom; or 3, 4, 5
@@ -39,29 +43,21 @@ LodgeJudged s w (Ok a) = Idle s × WrittenFact s w × (atom_meant a ≡ raw_mean
 LodgeJudged s w (Err e) = NotLodged s w e
 
 -- the atom is put on the shelf
-abbrev pub FactPut : State → subject.Atom → Placed → State → Type 0
-FactPut s a Already t = On s.facts a × (t ≡ s)
-FactPut s a NoRoom t = (On s.facts a → ⊥) × (s.free ≡ 0) × (t ≡ s)
-FactPut s a (At p) t = (On s.facts a → ⊥) × (0 < s.free) × (p ≡ length s.facts) × (t ≡ with_fact s a)
+abbrev pub FactPut : State → subject.Atom → Result Taken room.Full → State → Type 0
+FactPut s a (Ok Already) t = On s.facts a × (t ≡ s)
+FactPut s a (Ok (At p)) t = (On s.facts a → ⊥) × (0 < s.free) × (p ≡ length s.facts) × (t ≡ with_fact s a)
+FactPut s a (Err full) t = (On s.facts a → ⊥) × (s.free ≡ 0) × (t ≡ s)
 
 -- the atom is put into the overlay, and n nulls are issued then if it is new
-abbrev pub AtomPut : State → subject.Atom → ℕ → Placed → State → Type 0
-AtomPut s a n Already t = On s.pile a × (t ≡ s)
-AtomPut s a n NoRoom t = (On s.pile a → ⊥) × Full s × (t ≡ s)
-AtomPut s a n (At p) t = (On s.pile a → ⊥) × (Full s → ⊥) × (p ≡ length s.pile) × (t ≡ with_atom s a n)
+abbrev pub AtomPut : State → subject.Atom → ℕ → Result Taken room.Full → State → Type 0
+AtomPut s a n (Ok Already) t = On s.pile a × (t ≡ s)
+AtomPut s a n (Ok (At p)) t = (On s.pile a → ⊥) × (Full s → ⊥) × (p ≡ length s.pile) × (t ≡ with_atom s a n)
+AtomPut s a n (Err full) t = (On s.pile a → ⊥) × Full s × (t ≡ s)
 
--- query q is there
-abbrev pub Known : State → ℕ → Type 0
-Known s q = (nat_le 1 q && nat_le q (length (entries s.book.queries))) ≡ true
-
--- the query of the open derivation, if the slip's number n is the checker's; or 22
-abbrev pub OwnsDerivation : State → ℕ → Result ℕ Refusal → Type 0
-OwnsDerivation s n (Ok q) = OwnDerivation s n q × Known s q
-OwnsDerivation s n (Err e) = ForeignDerivation s n × Is e 22 0 0
-
-abbrev pub OwnsModel : State → ℕ → Result ℕ Refusal → Type 0
-OwnsModel s n (Ok q) = OwnModel s n q × Known s q
-OwnsModel s n (Err e) = ForeignModel s n × Is e 22 0 0
+-- the query of the open check of this kind, if the slip's number n is the checker's; or 22
+abbrev pub Owns : (ℕ → Check) → State → ℕ → Result ℕ Refusal → Type 0
+Owns kind s n (Ok q) = Own kind s n q × Known s.book q
+Owns kind s n (Err e) = Foreign kind s n × Is e 22 0 0
 
 -- the head of the step, where it may be made; or 22, 11, 12, 13, 14
 abbrev pub StepJudged : State → ℕ → ℕ → ℕ → Result Head Refusal → Type 0
@@ -95,5 +91,10 @@ RefuteJudged s n (Err e) = NotAccepted s n e
 
 -- a check of the query may be opened; or 21, 11, 23
 abbrev pub OpenJudged : State → ℕ → Result (Unit {0}) Refusal → Type 0
-OpenJudged s q (Ok u) = Idle s × ((ps : List Pattern) × Asks s q ps) × FirstUnfit (predicates_of s.book) s.facts None × Known s q
+OpenJudged s q (Ok u) = Idle s × ((ps : List Pattern) × Asks s q ps) × FirstUnfit (predicates_of s.book) s.facts None × Known s.book q
 OpenJudged s q (Err e) = NotOpened s q e
+
+-- the check ends with the verdict that was judged, and the slip is spent; a refusal hands it back and changes nothing
+abbrev pub Closed : {S : Type 0} → Seen S → ℕ → Result Verdict Refusal → Result Verdict (Returned ℕ) → Seen S → Type 0
+Closed c slip (Ok v) r d = (r ≡ Ok v) × (d.state ≡ closed c.state) × (d.pile.below ≡ c.pile.below)
+Closed c slip (Err e) r d = (r ≡ Err (record { refusal = e; slip = slip })) × (d ≡ c)

@@ -1,16 +1,23 @@
 -- What is true of every checker.
-use Rattle.std.specs.Prelude.{ℕ, Bool, true, ◌&&◌, ◌==◌, nat_le}
+use Rattle.std.specs.Prelude.{◌≡◌, ℕ, ◌*◌, ◌≤◌, length, None, Option, IfSome}
+use Rattle.book.specs.Tables.{entries}
+use Rattle.book.specs.declared.book.Book.{Book}
 use Rattle.calls.specs.declared.answer.Check.{Check}
-use Rattle.calls.specs.declared.answer.Check.TheVariants.{Shut, Derivation, Model}
+use Rattle.calls.specs.declared.answer.Check.TheVariants.{Derivation, Model}
 
--- the query of an open check is one of the n queries
-abbrev pub query_known : ℕ → Check → Bool
-query_known n Shut = true
-query_known n (Derivation q) = nat_le 1 q && nat_le q n
-query_known n (Model q) = nat_le 1 q && nat_le q n
+abbrev pub query_of : Check → ℕ
+query_of (Derivation q) = q
+query_of (Model q) = q
 
--- an overlay has no atoms of its own while no check is open
-abbrev pub own_known : ℕ → Check → Bool
-own_known count Shut = count == 0
-own_known count (Derivation q) = true
-own_known count (Model q) = true
+-- query q is there
+abbrev pub Known : Book → ℕ → Type 0
+Known b q = (1 ≤ q) × (q ≤ length (entries b.queries))
+
+-- of the book, the open check, and the counts of the overlay's own atoms and of the nulls issued
+pub record Sound (b : Book) (check : Option Check) (own nulls : ℕ) : Type 0 where
+  -- the query of an open check is one of the book's
+  pub asked : IfSome check (λ k. Known b (query_of k))
+  -- the overlay has no atoms of its own while no check is open
+  pub idle : check ≡ None → own ≡ 0
+  -- at most four nulls are issued for each atom added
+  pub few : nulls ≤ 4 * own

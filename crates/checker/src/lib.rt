@@ -2,4 +2,5 @@
 #![tactic(auto)]
 
 pub mod checker;
+pub mod kind;
 pub mod slip;

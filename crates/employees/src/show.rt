@@ -5,8 +5,8 @@ use fitting::binding::Binding;
 use fitting::instance::bound_atom;
 use matching::find::find_match;
 use refusals::refusal::Refusal;
-use shelves::placed::Placed;
 use shelves::stock::Stock;
+use shelves::taken::{Full, Taken};
 use terms::pattern_term::PatternTerm;
 use terms::term::Term;
 
@@ -59,17 +59,21 @@ pub(crate) fn show_rules(rt: &HostRuntime, book: &Book) -> anyhow::Result<()> {
 }
 
 /// Prints a fact with what the shelf answered.
-pub(crate) fn show_fact(rt: &HostRuntime, fact: &Fact, placed: Placed) -> anyhow::Result<()> {
+pub(crate) fn show_fact(
+    rt: &HostRuntime,
+    fact: &Fact,
+    answer: Result<Taken, Full>,
+) -> anyhow::Result<()> {
     print!(rt; "{}", fact.predicate.number())?;
     for i in 0..fact.terms.len() {
         if let Some(constant) = fact.terms.get(i) {
             print!(rt; " {}", constant.number())?;
         }
     }
-    match placed {
-        Placed::At(place) => println!(rt; " at {place}")?,
-        Placed::Already => println!(rt; " already")?,
-        Placed::Full => println!(rt; " full")?,
+    match answer {
+        Ok(Taken::At(place)) => println!(rt; " at {place}")?,
+        Ok(Taken::Already) => println!(rt; " already")?,
+        Err(Full) => println!(rt; " full")?,
     }
     Ok(())
 }

@@ -1,7 +1,8 @@
 //! What the program prints.
-use calls::answer::{Taken, Verdict};
+use calls::answer::Verdict;
 use calls::event::Event;
 use refusals::refusal::Refusal;
+use shelves::taken::Taken;
 
 /// Prints a call's number and its answer.
 pub(crate) fn show_event(rt: &HostRuntime, number: usize, event: Event) -> anyhow::Result<()> {

@@ -13,6 +13,7 @@ mod takes;
 pub struct Overlay<S> {
     below: S,
     own: ArrayVec<Record, 256>,
+    ghost few: { length own.items ≤ 256 },
 }
 
 impl<S: Shelf> Overlay<S> {

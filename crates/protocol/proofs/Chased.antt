@@ -1,5 +1,5 @@
 -- An open derivation is its plain chase, and its steps and claims are answered by it.
-use Rattle.std.proofs.Common.{◌≡◌, ℕ, Bool, true, false, eqb, ◌⊎◌, List, [], ◌∷◌, ◌++◌, is_ok, Ok, Err, Result, sym, refl, ap, ◌∙◌, subst, inl, inr, arith}
+use Rattle.std.proofs.Common.{◌≡◌, ℕ, Bool, true, false, eqb, ◌⊎◌, List, [], ◌∷◌, ◌++◌, is_ok, Some, Ok, Err, Result, sym, refl, ap, ◌∙◌, subst, inl, inr, arith}
 use Rattle.std.specs.List.{AllByRecursion}
 use Rattle.std.proofs.lemmas.Bool.{eqb-true, eq-eqb, both_ways}
 use Rattle.semantics.specs.Subject.{Atom, Pattern, Rule, On, numbered}
@@ -44,7 +44,7 @@ record IsStep (e : Event) : Type 0 where
 -- a call that is no step: it feeds nothing, and where it does not end an open derivation it changes nothing
 record Passes (number : ℕ) (e : Event) : Type 0 where
   unfed : (es : List Event) → feeds number (e ∷ es) ≡ feeds number es
-  unmoved : (q : ℕ) (s t : State) → ends e ≡ false → Did s e t → s.check ≡ Derivation q → t ≡ s
+  unmoved : (q : ℕ) (s t : State) → ends e ≡ false → Did s e t → s.check ≡ Some (Derivation q) → t ≡ s
 
 -- every call is one or the other
 passes : (number : ℕ) (e : Event) → Passes number e ⊎ IsStep e
@@ -75,7 +75,7 @@ passes number NoSlip = inl (record { unfed = λ es. refl; unmoved = λ q s t n h
 record Inside (book : Book) (number q : ℕ) (s : State) : Type 0 where
   its_book : s.book ≡ book
   its_number : s.number ≡ number
-  open_is : s.check ≡ Derivation q
+  open_is : s.check ≡ Some (Derivation q)
 
 module _ (book : Book) (number q : ℕ) where
   -- what calls from s to t have fed

@@ -1,5 +1,5 @@
 -- What stays true of a checker from call to call.
-use Rattle.std.proofs.Common.{◌≡◌, ℕ, suc, ◌<◌, ◌≤◌, Bool, true, false, ltb, List, [], ◌∷◌, ◌++◌, Some, None, Ok, Err, sym, refl, ap, ◌∙◌, subst, append_assoc, append-nil, arith, ltb-false, ltb-true}
+use Rattle.std.proofs.Common.{◌≡◌, ℕ, suc, ◌<◌, ◌≤◌, Bool, true, false, ltb, List, [], ◌∷◌, ◌++◌, Some, None, Option, Ok, Err, sym, refl, ap, ◌∙◌, subst, append_assoc, append-nil, arith, ltb-false, ltb-true}
 use Rattle.std.specs.List.{slice_get, AllByRecursion}
 use Rattle.semantics.specs.Subject.{Atom, Pattern}
 use Rattle.chase.specs.Chase.{IsFact, start}
@@ -8,10 +8,10 @@ use Rattle.book.specs.Theory.{predicates_of, rules_of}
 use Rattle.book.specs.declared.book.Book.{Book}
 use Rattle.shelves.specs.declared.taken.Taken.TheVariants.{Already, At}
 use Rattle.calls.specs.declared.answer.Check.{Check}
-use Rattle.calls.specs.declared.answer.Check.TheVariants.{Shut, Derivation, Model}
+use Rattle.calls.specs.declared.answer.Check.TheVariants.{Derivation, Model}
 use Rattle.calls.specs.declared.event.Event.{Event}
 use Rattle.calls.specs.declared.event.Event.TheVariants.{Lodge, OpenDerivation, OpenModel, Step, Add, Claim, Clash, Refute, StrikeDerivation, StrikeModel, NoSlip}
-use Rattle.protocol.specs.States.{State, opened, closed, with_fact, with_atom, Fresh, raw_meant}
+use Rattle.protocol.specs.States.{State, anew, opened, closed, with_fact, with_atom, Fresh, raw_meant}
 use Rattle.protocol.specs.Calls.{Idle, Asks, Stepped}
 use Rattle.protocol.specs.Runs.{Did, Ran, Met, with_brought, held}
 use Rattle.protocol.specs.ChaseOf.{chase_of}
@@ -19,10 +19,10 @@ use Rattle.protocol.specs.Law.{Chases}
 use Rattle.protocol.proofs.Plain.{chases_more, stepped_advances}
 
 -- a check is not open and shut, and not of both kinds
-pub not_shut : {X : Type 0} {q : ℕ} {k : Check} → k ≡ Shut → k ≡ Derivation q → X
+pub not_shut : {X : Type 0} {q : ℕ} {k : Option Check} → k ≡ None → k ≡ Some (Derivation q) → X
 not_shut e f = let z : ◌≡◌ {A = ℕ} 0 1 = cc in absurd (omega arith)
 
-pub not_model : {X : Type 0} {p q : ℕ} {k : Check} → k ≡ Model p → k ≡ Derivation q → X
+pub not_model : {X : Type 0} {p q : ℕ} {k : Option Check} → k ≡ Some (Model p) → k ≡ Some (Derivation q) → X
 not_model e f = let z : ◌≡◌ {A = ℕ} 0 1 = cc in absurd (omega arith)
 
 -- the terms are low, since they are not not constants
@@ -43,10 +43,10 @@ facts_low arities xs h = go xs (λ k a e f. h k (no_fact a e f))
     go (y ∷ ys) f = (low_terms y.terms (λ n. f 0 y refl (λ c. n c.1)), go ys (λ k a e. f (suc k) a e))
 
 -- what an open check is worth: a derivation's pile is a chase of low facts, and a model's begins with the facts
-abbrev pub Worth : State → Check → Type 0
-Worth s Shut = s ≡ closed s
-Worth s (Derivation q) = ((ps : List Pattern) × Asks s q ps) × AllByRecursion IsFact s.facts × ((xs : List (ℕ × ℕ)) × Chases (rules_of s.book) (start s.facts) xs (chase_of s))
-Worth s (Model q) = ((ps : List Pattern) × Asks s q ps) × ((own : List Atom) × (s.pile ≡ s.facts ++ own))
+abbrev pub Worth : State → Option Check → Type 0
+Worth s None = s ≡ closed s
+Worth s (Some (Derivation q)) = ((ps : List Pattern) × Asks s q ps) × AllByRecursion IsFact s.facts × ((xs : List (ℕ × ℕ)) × Chases (rules_of s.book) (start s.facts) xs (chase_of s))
+Worth s (Some (Model q)) = ((ps : List Pattern) × Asks s q ps) × ((own : List Atom) × (s.pile ≡ s.facts ++ own))
 
 -- what stays true: book and number stay, the facts are those that were brought, and the check is worth that
 pub record Keeps (book : Book) (number : ℕ) (facts : List Atom) (s : State) : Type 0 where
@@ -56,10 +56,10 @@ pub record Keeps (book : Book) (number : ℕ) (facts : List Atom) (s : State) : 
   pub worth : Worth s s.check
 
 -- the worth of the check that is open
-pub worth_of : (s : State) (k : Check) → s.check ≡ k → Worth s s.check → Worth s k
+pub worth_of : (s : State) (k : Option Check) → s.check ≡ k → Worth s s.check → Worth s k
 worth_of s k e w = subst (Worth s) e w
 
-worth_back : (s : State) (k : Check) → s.check ≡ k → Worth s k → Worth s s.check
+worth_back : (s : State) (k : Option Check) → s.check ≡ k → Worth s k → Worth s s.check
 worth_back s k e w = subst (Worth s) (sym e) w
 
 module _ (book : Book) (number : ℕ) (facts : List Atom) where
@@ -68,48 +68,48 @@ module _ (book : Book) (number : ℕ) (facts : List Atom) where
   same s t e k = subst (Keeps book number facts) (sym e) k
 
   -- a check is opened or shut
-  anew : (s t : State) (c : Check) → t ≡ opened s c → Worth (opened s c) c → Keeps book number facts s → Keeps book number facts t
-  anew s t c e w k = subst (Keeps book number facts) (sym e) (record { its_book = k.its_book; its_number = k.its_number; its_facts = k.its_facts; worth = w })
+  turned : (s t : State) (c : Option Check) → t ≡ anew s c → Worth (anew s c) c → Keeps book number facts s → Keeps book number facts t
+  turned s t c e w k = subst (Keeps book number facts) (sym e) (record { its_book = k.its_book; its_number = k.its_number; its_facts = k.its_facts; worth = w })
 
   shuts : (s t : State) → t ≡ closed s → Keeps book number facts s → Keeps book number facts t
-  shuts s t e k = anew s t Shut e refl k
+  shuts s t e k = turned s t None e refl k
 
   lodges : (s t : State) (a : Atom) → Idle s → t ≡ with_fact s a → Keeps book number facts s → Keeps book number (facts ++ a ∷ []) t
   lodges s t a idle e k = subst (Keeps book number (facts ++ a ∷ [])) (sym e) (record {
     its_book = k.its_book;
     its_number = k.its_number;
     its_facts = ap (λ (l : List Atom). l ++ a ∷ []) k.its_facts;
-    worth = worth_back (with_fact s a) Shut idle (ap (λ (x : State). with_fact x a) (worth_of s Shut idle k.worth));
+    worth = worth_back (with_fact s a) None idle (ap (λ (x : State). with_fact x a) (worth_of s None idle k.worth));
   })
 
   -- an atom more on the pile
-  grows : (s : State) (a : Atom) (m : ℕ) (c : Check) → s.check ≡ c → Worth (with_atom s a m) c → Keeps book number facts s → Keeps book number facts (with_atom s a m)
+  grows : (s : State) (a : Atom) (m : ℕ) (c : Option Check) → s.check ≡ c → Worth (with_atom s a m) c → Keeps book number facts s → Keeps book number facts (with_atom s a m)
   grows s a m c e w k = record { its_book = k.its_book; its_number = k.its_number; its_facts = k.its_facts; worth = worth_back (with_atom s a m) c e w }
 
   steps : (s t : State) (n k p x : ℕ) → Stepped s n k p (Ok (At x)) t → Keeps book number facts s → Keeps book number facts t
   steps s t n k p x h keeps =
       let a = h.1 in
       let m = h.2 in
-      let w = worth_of s (Derivation h.0) h.3.0 keeps.worth in
+      let w = worth_of s (Some (Derivation h.0)) h.3.0 keeps.worth in
       let e = h.8 in
       let more = chases_more (rules_of s.book) (start s.facts) (chase_of s) (chase_of (with_atom s a m)) w.2.0 k p w.2.1
       (stepped_advances s (with_atom s a m) n h.0 k p (Ok (At x)) h.3 (h.0, a, m, h.3, h.4, h.5, h.6, h.7, refl)) in
-      subst (Keeps book number facts) (sym e) (grows s a m (Derivation h.0) h.3.0 (w.0, w.1, (w.2.0 ++ (k, p) ∷ [], more)) keeps)
+      subst (Keeps book number facts) (sym e) (grows s a m (Some (Derivation h.0)) h.3.0 (w.0, w.1, (w.2.0 ++ (k, p) ∷ [], more)) keeps)
 
-  adds : (s t : State) (a : Atom) (q : ℕ) → s.check ≡ Model q → t ≡ with_atom s a s.nulls → Keeps book number facts s → Keeps book number facts t
+  adds : (s t : State) (a : Atom) (q : ℕ) → s.check ≡ Some (Model q) → t ≡ with_atom s a s.nulls → Keeps book number facts s → Keeps book number facts t
   adds s t a q c e keeps =
-      let w = worth_of s (Model q) c keeps.worth in
+      let w = worth_of s (Some (Model q)) c keeps.worth in
       subst (Keeps book number facts) (sym e)
-      (grows s a s.nulls (Model q) c (w.0, (w.1.0 ++ a ∷ [], ap (λ (l : List Atom). l ++ a ∷ []) w.1.1 ∙ append_assoc s.facts w.1.0 (a ∷ []))) keeps)
+      (grows s a s.nulls (Some (Model q)) c (w.0, (w.1.0 ++ a ∷ [], ap (λ (l : List Atom). l ++ a ∷ []) w.1.1 ∙ append_assoc s.facts w.1.0 (a ∷ []))) keeps)
 
 -- each call keeps it
 pub kept : (book : Book) (number : ℕ) (facts : List Atom) (s t : State) (e : Event) → Did s e t → Keeps book number facts s → Keeps book number (with_brought facts e) t
 kept b n f s t (Lodge w (Ok Already)) h k = same b n f s t h.3 k
 kept b n f s t (Lodge w (Ok (At place))) h k = lodges b n f s t (raw_meant w) h.0 h.5 k
 kept b n f s t (Lodge w (Err e)) h k = same b n f s t h.1 k
-kept b n f s t (OpenDerivation q (Ok u)) h k = anew b n f s t (Derivation q) h.3 (h.1, facts_low (predicates_of s.book) s.facts h.2, ([], refl)) k
+kept b n f s t (OpenDerivation q (Ok u)) h k = turned b n f s t (Some (Derivation q)) h.3 (h.1, facts_low (predicates_of s.book) s.facts h.2, ([], refl)) k
 kept b n f s t (OpenDerivation q (Err e)) h k = same b n f s t h.1 k
-kept b n f s t (OpenModel q (Ok u)) h k = anew b n f s t (Model q) h.3 (h.1, ([], sym (append-nil s.facts))) k
+kept b n f s t (OpenModel q (Ok u)) h k = turned b n f s t (Some (Model q)) h.3 (h.1, ([], sym (append-nil s.facts))) k
 kept b n f s t (OpenModel q (Err e)) h k = same b n f s t h.1 k
 kept b n f s t (Step m r p (Ok Already)) h k = same b n f s t h.6 k
 kept b n f s t (Step m r p (Ok (At x))) h k = steps b n f s t m r p x h k
@@ -136,7 +136,7 @@ kept_all b n f s t (e ∷ es) r k = kept_all b n (with_brought f e) r.0 t es r.2
 
 -- it holds of a checker just made
 pub kept_new : (s : State) → Fresh s → Keeps s.book s.number s.facts s
-kept_new s fresh = record { its_book = refl; its_number = refl; its_facts = refl; worth = worth_back s Shut (ap (λ (x : State). x.check) fresh) fresh }
+kept_new s fresh = record { its_book = refl; its_number = refl; its_facts = refl; worth = worth_back s None (ap (λ (x : State). x.check) fresh) fresh }
 
 -- so it holds wherever a checker has come
 pub kept_met : (book : Book) (number : ℕ) (start : List Atom) (es : List Event) (s : State) → Met book number start es s → Keeps book number (held start es) s

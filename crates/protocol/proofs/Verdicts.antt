@@ -55,7 +55,7 @@ satisfied_kept pile r s g k a b e there f m =
     found_complete pile b h.2.0 (r.head ∷ []) h.2.1 ((h.0, h.2.2, h.1), tt)
 
 -- what one derivation shows
-module _ (m : Candidate) (s : State) (q : ℕ) (worth : Worth s (check.Derivation q)) where
+module _ (m : Candidate) (s : State) (q : ℕ) (worth : Worth s (Some (check.Derivation q))) where
   -- patterns that were shown on its pile have a match in every model
   shown_match : (ps : List Pattern) (p : Places) → PlainAll ps → Shown s.pile ps p → Model m s.facts (rules_of s.book) → HasMatch m ps
   shown_match ps p plain shown model =
@@ -73,14 +73,14 @@ truth_moved m book number facts s v k t = subst (λ (b : Book). Truth m b facts 
 module _ (m : Candidate) (book : Book) (number : ℕ) (facts : List Atom) (s t : State) (keeps : Keeps book number facts s) where
   claim_kept : (n : ℕ) (p : Places) (v : Verdict) → Claimed s n p (Ok v) t → Truth m book facts v
   claim_kept n p v h =
-      let w = worth_of s (check.Derivation h.0) h.2.0 keeps.worth in
+      let w = worth_of s (Some (check.Derivation h.0)) h.2.0 keeps.worth in
       let plain = subject_every PlainAll (queries_of s.book) h.0 h.1 (plain_queries s.book) h.3 in
       truth_moved m book number facts s v keeps
       (subst (Truth m s.book s.facts) (sym h.5) (λ model. (h.1, h.3, shown_match m s h.0 w h.1 p plain h.4 model)))
 
   clash_kept : (n c : ℕ) (p : Places) (v : Verdict) → Clashed s n c p (Ok v) t → Truth m book facts v
   clash_kept n c p v h =
-      let w = worth_of s (check.Derivation h.0) h.2.0 keeps.worth in
+      let w = worth_of s (Some (check.Derivation h.0)) h.2.0 keeps.worth in
       let plain = subject_every PlainAll (constraints_of s.book) c h.1 (plain_constraints s.book) h.3 in
       truth_moved m book number facts s v keeps
       (subst (Truth m s.book s.facts) (sym h.5) (λ model.
@@ -116,7 +116,7 @@ verdict_is (Err x) v e = absurd (none_some e)
 
 refute_kept : (m : Candidate) (book : Book) (number : ℕ) (facts : List Atom) (s t : State) (n : ℕ) (v : Verdict) → Keeps book number facts s → Refuted s n (Ok v) t → Truth m book facts v
 refute_kept m book number facts s t n v keeps h =
-    let w = worth_of s (check.Model h.0) h.2.0 keeps.worth in
+    let w = worth_of s (Some (check.Model h.0)) h.2.0 keeps.worth in
     truth_moved m book number facts s v keeps (refute_true m s t w.1.0 n v w.1.1 h)
 
 -- the verdict that a call gave is true of the facts held

@@ -23,12 +23,12 @@ use Rattle.shelves.specs.declared.taken.Taken.TheVariants.{Already, At}
 use Rattle.calls.specs.declared.answer.Verdict.{Verdict}
 use Rattle.calls.specs.declared.answer.Verdict.TheVariants.{Entailed, Inconsistent, NotEntailed}
 use Rattle.calls.specs.declared.answer.Check.{Check}
-use Rattle.calls.specs.declared.answer.Check.TheVariants.{Shut}
-use Rattle.protocol.specs.States.{State, opened, closed, with_fact, with_atom, Full, OwnDerivation, OwnModel, ForeignDerivation, ForeignModel, raw_meant}
+use Rattle.calls.specs.declared.answer.Check.TheVariants.{Derivation, Model}
+use Rattle.protocol.specs.States.{State, opened, closed, with_fact, with_atom, Full, Own, Foreign, OwnDerivation, OwnModel, ForeignDerivation, ForeignModel, raw_meant}
 
 -- no check is open
 abbrev pub Idle : State → Type 0
-Idle s = s.check ≡ Shut
+Idle s = s.check ≡ None
 
 -- query q of the book
 abbrev pub Asks : State → ℕ → List Pattern → Type 0
@@ -154,10 +154,12 @@ Refuted s n (Ok v) t = (q : ℕ) × (ps : List Pattern) × OwnModel s n q × Ask
 Refuted s n (Err e) t = NotAccepted s n e × (t ≡ s)
 
 -- Strike: 22.
+abbrev pub Struck : (ℕ → Check) → State → ℕ → Result (Unit {0}) Refusal → State → Type 0
+Struck kind s n (Ok u) t = ((q : ℕ) × Own kind s n q) × (t ≡ closed s)
+Struck kind s n (Err e) t = Foreign kind s n × Is e 22 0 0 × (t ≡ s)
+
 abbrev pub StruckDerivation : State → ℕ → Result (Unit {0}) Refusal → State → Type 0
-StruckDerivation s n (Ok u) t = ((q : ℕ) × OwnDerivation s n q) × (t ≡ closed s)
-StruckDerivation s n (Err e) t = ForeignDerivation s n × Is e 22 0 0 × (t ≡ s)
+StruckDerivation = Struck Derivation
 
 abbrev pub StruckModel : State → ℕ → Result (Unit {0}) Refusal → State → Type 0
-StruckModel s n (Ok u) t = ((q : ℕ) × OwnModel s n q) × (t ≡ closed s)
-StruckModel s n (Err e) t = ForeignModel s n × Is e 22 0 0 × (t ≡ s)
+StruckModel = Struck Model

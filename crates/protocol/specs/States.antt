@@ -1,12 +1,12 @@
 -- A checker as the plain things that its calls speak of.
-use Rattle.std.specs.Prelude.{◌≡◌, ℕ, ◌+◌, ◌-◌, ◌≤◌, ◌⊎◌, List, [], ◌∷◌, ◌++◌, map, length}
+use Rattle.std.specs.Prelude.{◌≡◌, ℕ, ◌+◌, ◌-◌, ◌≤◌, ◌⊎◌, List, [], ◌∷◌, ◌++◌, map, length, Some, None, Option}
 use Rattle.semantics.specs.Subject.{Atom}
 use Rattle.reading.specs.declared.raw.RawAtom.{RawAtom}
 use Rattle.reading.specs.declared.raw.RawTerm.{RawTerm}
 use Rattle.reading.specs.declared.raw.RawTerm.TheVariants as raw
 use Rattle.book.specs.declared.book.Book.{Book}
 use Rattle.calls.specs.declared.answer.Check.{Check}
-use Rattle.calls.specs.declared.answer.Check.TheVariants.{Shut, Derivation, Model}
+use Rattle.calls.specs.declared.answer.Check.TheVariants.{Derivation, Model}
 
 pub record State : Type 0 where
   pub book : Book
@@ -20,14 +20,18 @@ pub record State : Type 0 where
   pub added : ℕ
   -- how many nulls the open check has issued
   pub nulls : ℕ
-  pub check : Check
+  -- the check that is open, if one is
+  pub check : Option Check
 
--- the same with an empty overlay, no null issued, and this check open
+-- the same with an empty overlay, no null issued, and this check open, or none
+abbrev pub anew : State → Option Check → State
+anew s o = record { book = s.book; number = s.number; facts = s.facts; free = s.free; pile = s.facts; added = 0; nulls = 0; check = o }
+
 abbrev pub opened : State → Check → State
-opened s k = record { book = s.book; number = s.number; facts = s.facts; free = s.free; pile = s.facts; added = 0; nulls = 0; check = k }
+opened s k = anew s (Some k)
 
 abbrev pub closed : State → State
-closed s = opened s Shut
+closed s = anew s None
 
 -- a checker just made
 abbrev pub Fresh : State → Type 0
@@ -45,20 +49,25 @@ with_atom s a n = record { book = s.book; number = s.number; facts = s.facts; fr
 abbrev pub Full : State → Type 0
 Full s = (256 ≤ s.added) ⊎ (1000000 ≤ length s.pile)
 
--- a derivation of query q is open, and the slip's number n is the checker's
+-- a check of this kind of query q is open, and the slip's number n is the checker's
+abbrev pub Own : (ℕ → Check) → State → ℕ → ℕ → Type 0
+Own kind s n q = (s.check ≡ Some (kind q)) × (n ≡ s.number)
+
 abbrev pub OwnDerivation : State → ℕ → ℕ → Type 0
-OwnDerivation s n q = (s.check ≡ Derivation q) × (n ≡ s.number)
+OwnDerivation = Own Derivation
 
--- a model against query q is open, and the slip's number n is the checker's
 abbrev pub OwnModel : State → ℕ → ℕ → Type 0
-OwnModel s n q = (s.check ≡ Model q) × (n ≡ s.number)
+OwnModel = Own Model
 
--- a derivation's slip is foreign: it bears another number, or no derivation is open
+-- a slip of this kind is foreign: it bears another number, or no check of its kind is open
+abbrev pub Foreign : (ℕ → Check) → State → ℕ → Type 0
+Foreign kind s n = (q : ℕ) → Own kind s n q → ⊥
+
 abbrev pub ForeignDerivation : State → ℕ → Type 0
-ForeignDerivation s n = (q : ℕ) → OwnDerivation s n q → ⊥
+ForeignDerivation = Foreign Derivation
 
 abbrev pub ForeignModel : State → ℕ → Type 0
-ForeignModel s n = (q : ℕ) → OwnModel s n q → ⊥
+ForeignModel = Foreign Model
 
 -- what a term means as it is written: a constant its number, null k 1,000,000 + k; a variable means nothing
 abbrev pub raw_number : RawTerm → ℕ

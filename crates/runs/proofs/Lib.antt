@@ -1,2 +1,1 @@
-pub mod Pooling
 pub mod Walking

@@ -1,5 +1,4 @@
 //! A run of calls, from the making of the checker on.
-ghost use Rattle.checker.specs.Views.{view};
 ghost use Rattle.runs.specs.Conducted.{Conducted};
 
 use crate::perform::run;
@@ -28,16 +27,12 @@ pub fn conduct<W: Candidate, S: Shelf>(
     pool: &mut Vec<Slot>,
     log: &mut Vec<Event>,
 ) -> Result<Checker<S>, Unmade<S>>
-    ensures { Conducted S.Stock.list S.Shelf.free W.Candidate.has book shelf number calls.now pool.old.items log.old.items result pool.new.items log.new.items }
+    ensures { Conducted S.Stock.list W.Candidate.has book shelf number calls.now pool.old.items log.old.items result pool.new.items log.new.items }
 {
-    if pool.reserve(calls.len()).is_err() {
-        return Err(Unmade { book, shelf });
-    }
-    if log.reserve(calls.len()).is_err() {
+    if pool.reserve(calls.len()).is_err() || log.reserve(calls.len()).is_err() {
         return Err(Unmade { book, shelf });
     }
     let mut checker = Checker::new(book, shelf, number);
     run::<W, S>(&mut checker, calls, pool, log);
-
     Ok(checker)
 }

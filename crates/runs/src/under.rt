@@ -1,217 +1,124 @@
 //! Calls of a list under what is held in their slot.
-ghost use Rattle.calls.specs.declared.call.Call.TheVariants as call;
-ghost use Rattle.checker.specs.Views.{view};
+ghost use Rattle.checker.specs.Views.{plain};
 ghost use Rattle.runs.specs.Conducted.{Used};
+ghost use Rattle.runs.specs.Pools.{back_of};
+ghost use Rattle.runs.specs.declared.pool.HeldSlip.TheVariants as held;
+ghost use Rattle.std.specs.Option.{option_map};
+ghost use Rattle.std.specs.Prelude.{◌≡◌, Some};
 
-use crate::pool::Slot;
+use crate::pool::{HeldSlip, Slot};
+use calls::call::SlipCall;
 use calls::candidate::Candidate;
 use calls::event::Event;
-use calls::places::Places;
 use checker::checker::Checker;
-use checker::slip::Returned;
-use reading::raw::RawAtom;
+use checker::slip::{DerivationSlip, ModelSlip, Returned};
+use refusals::refusal::Refusal;
 use shelves::stock::Shelf;
 
-/// The call with its answer, and what goes back into the slot.
-pub(crate) struct Done {
-    pub(crate) event: Event,
-    pub(crate) back: Slot,
+/// The slip that is handed back, if one is, and the answer without it.
+fn apart<T, L>(answer: Result<T, Returned<L>>) -> (Option<L>, Result<T, Refusal>)
+    ensures back { result.0 ≡ back_of answer }
+    ensures answer { result.1 ≡ plain answer }
+{
+    match answer {
+        Ok(value) => (None, Ok(value)),
+        Err(Returned { refusal, slip }) => (Some(slip), Err(refusal)),
+    }
 }
 
-pub(crate) fn step_under<S: Shelf>(
+/// What is left of the slip, and the call with its answer.
+fn under_derivation<W: Candidate, S: Shelf>(
     checker: &mut Checker<S>,
-    held: Slot,
-    slot: usize,
-    rule: usize,
-    place: usize,
-) -> Done
-    ensures { Used (view S.Stock.list S.Shelf.free checker.old) held (call.Step slot rule place) result.event (view S.Stock.list S.Shelf.free checker.new) result.back }
+    own: DerivationSlip,
+    call: SlipCall,
+) -> (Option<DerivationSlip>, Event)
+    ensures { Used checker.old.state (Some (held.Derivation own)) call result.1 checker.new.state (option_map held.Derivation result.0) }
 {
-    match held {
-        Slot::Derivation(slip) => {
+    let slip = own.number();
+    match call {
+        SlipCall::Step { rule, place } => {
+            let answer = checker.step(&own, rule, place);
             let event = Event::Step {
-                slip: slip.number(),
+                slip,
                 rule,
                 place,
-                answer: checker.step(&slip, rule, place),
+                answer,
             };
-            Done {
-                event,
-                back: Slot::Derivation(slip),
-            }
+            (Some(own), event)
         }
-        other => Done {
-            event: Event::NoSlip,
-            back: other,
-        },
-    }
-}
-
-pub(crate) fn add_under<S: Shelf>(
-    checker: &mut Checker<S>,
-    held: Slot,
-    slot: usize,
-    atom: RawAtom,
-) -> Done
-    ensures { Used (view S.Stock.list S.Shelf.free checker.old) held (call.Add slot atom) result.event (view S.Stock.list S.Shelf.free checker.new) result.back }
-{
-    match held {
-        Slot::Model(slip) => {
-            let event = Event::Add {
-                slip: slip.number(),
-                atom,
-                answer: checker.add(&slip, &atom),
+        SlipCall::Claim(places) => {
+            let (back, answer) = apart(checker.claim::<W>(own, places));
+            let event = Event::Claim {
+                slip,
+                places,
+                answer,
             };
-            Done {
-                event,
-                back: Slot::Model(slip),
-            }
+            (back, event)
         }
-        other => Done {
-            event: Event::NoSlip,
-            back: other,
-        },
+        SlipCall::Clash { constraint, places } => {
+            let (back, answer) = apart(checker.clash::<W>(own, constraint, places));
+            let event = Event::Clash {
+                slip,
+                constraint,
+                places,
+                answer,
+            };
+            (back, event)
+        }
+        SlipCall::Strike => {
+            let answer = checker.strike(own);
+            (None, Event::StrikeDerivation { slip, answer })
+        }
+        SlipCall::Add(_) | SlipCall::Refute => (Some(own), Event::NoSlip),
     }
 }
 
-pub(crate) fn claim_under<W: Candidate, S: Shelf>(
+/// What is left of the slip, and the call with its answer.
+fn under_model<W: Candidate, S: Shelf>(
+    checker: &mut Checker<S>,
+    own: ModelSlip,
+    call: SlipCall,
+) -> (Option<ModelSlip>, Event)
+    ensures { Used checker.old.state (Some (held.Model own)) call result.1 checker.new.state (option_map held.Model result.0) }
+{
+    let slip = own.number();
+    match call {
+        SlipCall::Add(atom) => {
+            let answer = checker.add(&own, &atom);
+            (Some(own), Event::Add { slip, atom, answer })
+        }
+        SlipCall::Refute => {
+            let (back, answer) = apart(checker.refute::<W>(own));
+            (back, Event::Refute { slip, answer })
+        }
+        SlipCall::Strike => {
+            let answer = checker.strike(own);
+            (None, Event::StrikeModel { slip, answer })
+        }
+        SlipCall::Step { .. } | SlipCall::Claim(_) | SlipCall::Clash { .. } => (
+            Some(own),
+            Event::NoSlip,
+        ),
+    }
+}
+
+/// What goes back into the slot, and the call with its answer.
+pub(crate) fn under<W: Candidate, S: Shelf>(
     checker: &mut Checker<S>,
     held: Slot,
-    slot: usize,
-    places: Places,
-) -> Done
-    ensures { Used (view S.Stock.list S.Shelf.free checker.old) held (call.Claim slot places) result.event (view S.Stock.list S.Shelf.free checker.new) result.back }
+    call: SlipCall,
+) -> (Slot, Event)
+    ensures { Used checker.old.state held call result.1 checker.new.state result.0 }
 {
     match held {
-        Slot::Derivation(own) => {
-            let slip = own.number();
-            match checker.claim::<W>(own, places) {
-                Ok(verdict) => Done {
-                    event: Event::Claim {
-                        slip,
-                        places,
-                        answer: Ok(verdict),
-                    },
-                    back: Slot::Empty,
-                },
-                Err(Returned { refusal, slip: own }) => Done {
-                    event: Event::Claim {
-                        slip,
-                        places,
-                        answer: Err(refusal),
-                    },
-                    back: Slot::Derivation(own),
-                },
-            }
+        None => (None, Event::NoSlip),
+        Some(HeldSlip::Derivation(slip)) => {
+            let (back, event) = under_derivation::<W, S>(checker, slip, call);
+            (back.map(HeldSlip::Derivation), event)
         }
-        other => Done {
-            event: Event::NoSlip,
-            back: other,
-        },
-    }
-}
-
-pub(crate) fn clash_under<W: Candidate, S: Shelf>(
-    checker: &mut Checker<S>,
-    held: Slot,
-    slot: usize,
-    constraint: usize,
-    places: Places,
-) -> Done
-    ensures { Used (view S.Stock.list S.Shelf.free checker.old) held (call.Clash slot constraint places) result.event (view S.Stock.list S.Shelf.free checker.new) result.back }
-{
-    match held {
-        Slot::Derivation(own) => {
-            let slip = own.number();
-            match checker.clash::<W>(own, constraint, places) {
-                Ok(verdict) => Done {
-                    event: Event::Clash {
-                        slip,
-                        constraint,
-                        places,
-                        answer: Ok(verdict),
-                    },
-                    back: Slot::Empty,
-                },
-                Err(Returned { refusal, slip: own }) => Done {
-                    event: Event::Clash {
-                        slip,
-                        constraint,
-                        places,
-                        answer: Err(refusal),
-                    },
-                    back: Slot::Derivation(own),
-                },
-            }
+        Some(HeldSlip::Model(slip)) => {
+            let (back, event) = under_model::<W, S>(checker, slip, call);
+            (back.map(HeldSlip::Model), event)
         }
-        other => Done {
-            event: Event::NoSlip,
-            back: other,
-        },
-    }
-}
-
-pub(crate) fn refute_under<W: Candidate, S: Shelf>(
-    checker: &mut Checker<S>,
-    held: Slot,
-    slot: usize,
-) -> Done
-    ensures { Used (view S.Stock.list S.Shelf.free checker.old) held (call.Refute slot) result.event (view S.Stock.list S.Shelf.free checker.new) result.back }
-{
-    match held {
-        Slot::Model(own) => {
-            let slip = own.number();
-            match checker.refute::<W>(own) {
-                Ok(verdict) => Done {
-                    event: Event::Refute {
-                        slip,
-                        answer: Ok(verdict),
-                    },
-                    back: Slot::Empty,
-                },
-                Err(Returned { refusal, slip: own }) => Done {
-                    event: Event::Refute {
-                        slip,
-                        answer: Err(refusal),
-                    },
-                    back: Slot::Model(own),
-                },
-            }
-        }
-        other => Done {
-            event: Event::NoSlip,
-            back: other,
-        },
-    }
-}
-
-pub(crate) fn strike_under<S: Shelf>(checker: &mut Checker<S>, held: Slot, slot: usize) -> Done
-    ensures { Used (view S.Stock.list S.Shelf.free checker.old) held (call.Strike slot) result.event (view S.Stock.list S.Shelf.free checker.new) result.back }
-{
-    match held {
-        Slot::Derivation(own) => {
-            let slip = own.number();
-            Done {
-                event: Event::StrikeDerivation {
-                    slip,
-                    answer: checker.strike_derivation(own),
-                },
-                back: Slot::Empty,
-            }
-        }
-        Slot::Model(own) => {
-            let slip = own.number();
-            Done {
-                event: Event::StrikeModel {
-                    slip,
-                    answer: checker.strike_model(own),
-                },
-                back: Slot::Empty,
-            }
-        }
-        Slot::Empty => Done {
-            event: Event::NoSlip,
-            back: Slot::Empty,
-        },
     }
 }

@@ -1,12 +1,12 @@
 //! A full shelf with any atoms, repeats included.
 ghost use Rattle.shelves.specs.Rows.{front};
-ghost use Rattle.trials.specs.Short.{front_short};
+ghost use Rattle.trials.specs.Short.{rows_short};
 
 use atoms::atom::GroundAtom;
-use shelves::placed::Placed;
 use shelves::record::Record;
-use shelves::rows::{at, stands};
+use shelves::rows::{at, front, stands};
 use shelves::stock::{Shelf, Stock};
+use shelves::taken::{Full, Taken};
 
 /// Of the records, the first 4,096 count.
 #[derive(Clone, Copy)]
@@ -17,18 +17,18 @@ pub struct Fixed<'a> {
 impl<'a> Stock for Fixed<'a> {
     ghost list = { λ s. front 4096 s.records.now };
 
-    ghost short = { λ s. front_short s.records.now };
+    ghost short = { λ s. rows_short s.records.now };
 
     fn len(&self) -> usize {
-        self.records.len().min(4096)
+        front(self.records, 4096).len()
     }
 
     fn get(&self, place: usize) -> Option<GroundAtom> {
-        at(self.records, 4096, place)
+        at(front(self.records, 4096), place)
     }
 
     fn contains(&self, atom: &GroundAtom) -> bool {
-        stands(self.records, 4096, atom)
+        stands(front(self.records, 4096), atom)
     }
 }
 
@@ -39,11 +39,11 @@ impl<'a> Shelf for Fixed<'a> {
         0
     }
 
-    fn put(&mut self, atom: GroundAtom) -> Placed {
+    fn put(&mut self, atom: GroundAtom) -> Result<Taken, Full> {
         if Self::contains(self, &atom) {
-            Placed::Already
+            Ok(Taken::Already)
         } else {
-            Placed::Full
+            Err(Full)
         }
     }
 }

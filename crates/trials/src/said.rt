@@ -1,12 +1,13 @@
 //! What a checker answers, so that it can be compared, and slips spent.
 use atoms::atom::GroundAtom;
-use calls::answer::{Taken, Verdict};
+use calls::answer::Verdict;
 use calls::candidate::Candidate;
 use calls::places::Places;
 use checker::checker::Checker;
 use checker::slip::{DerivationSlip, ModelSlip, Returned};
 use refusals::refusal::Refusal;
 use shelves::stock::Shelf;
+use shelves::taken::Taken;
 use terms::term::Term;
 
 /// The property that every atom has.

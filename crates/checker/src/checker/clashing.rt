@@ -1,12 +1,12 @@
 //! Claims on a constraint.
 ghost use Rattle.calls.specs.declared.event.Event.TheVariants.{Clash};
 ghost use Rattle.checker.specs.Parts.{ClashJudged};
-ghost use Rattle.checker.specs.Views.{view, Left, plain, Handed, TrueAfter};
+ghost use Rattle.checker.specs.Views.{Left, plain, Handed, TrueAfter};
 ghost use Rattle.protocol.specs.Runs.{Did};
 
 use crate::checker::Checker;
 use crate::slip::{DerivationSlip, Returned};
-use calls::answer::{Check, Verdict};
+use calls::answer::Verdict;
 use calls::candidate::Candidate;
 use calls::places::Places;
 use refusals::refusal::Refusal;
@@ -20,20 +20,18 @@ impl<S: Shelf> Checker<S> {
         constraint: usize,
         places: Places,
     ) -> Result<Verdict, Refusal>
-        ensures { ClashJudged (view S.Stock.list S.Shelf.free self.now) slip.now.number constraint places result }
+        ensures { ClashJudged self.now.state slip.now constraint places result }
     {
-        self.own_derivation(slip.number)?;
-        let Some(patterns) = self.constraint_of(constraint) else {
-            return Err(Refusal::NoSuchNumber { number: constraint });
-        };
-        match self.show(patterns, places) {
-            Ok(()) => Ok(Verdict::Inconsistent {
-                constraint,
-                added: self.pile.own_len(),
-                nulls: self.nulls,
-            }),
-            Err(refusal) => Err(refusal),
-        }
+        self.own(slip)?;
+        let patterns = self
+            .constraint_of(constraint)
+            .ok_or(Refusal::NoSuchNumber { number: constraint })?;
+        self.show(patterns, places)?;
+        Ok(Verdict::Inconsistent {
+            constraint,
+            added: self.pile.own_len(),
+            nulls: self.nulls,
+        })
     }
 
     /// Claims that the constraint has a match at these places, one for each of its patterns.
@@ -43,18 +41,12 @@ impl<S: Shelf> Checker<S> {
         constraint: usize,
         places: Places,
     ) -> Result<Verdict, Returned<DerivationSlip>>
-        ensures did { Did (view S.Stock.list S.Shelf.free self.old) (Clash slip.number constraint places (plain result)) (view S.Stock.list S.Shelf.free self.new) }
+        ensures did { Did self.old.state (Clash slip constraint places (plain result)) self.new.state }
         ensures left { Left self.old result self.new }
         ensures back { Handed slip result }
-        ensures truth { TrueAfter W.Candidate.has (view S.Stock.list S.Shelf.free self.old) (plain result) }
+        ensures truth { TrueAfter W.Candidate.has self.old.state (plain result) }
     {
-        match self.judge_clash(&slip, constraint, places) {
-            Ok(verdict) => {
-                let DerivationSlip { number: _ } = slip;
-                self.restart(Check::Shut);
-                Ok(verdict)
-            }
-            Err(refusal) => Err(Returned { refusal, slip }),
-        }
+        let judged = self.judge_clash(&slip, constraint, places);
+        self.close(slip, judged)
     }
 }

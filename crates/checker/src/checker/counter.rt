@@ -1,85 +1,59 @@
-//! Models: add, refute and strike.
-ghost use Rattle.calls.specs.declared.event.Event.TheVariants.{Add, Refute, StrikeModel};
+//! Models: add and refute.
+ghost use Rattle.calls.specs.declared.event.Event.TheVariants.{Add, Refute};
 ghost use Rattle.checker.specs.Parts.{AddJudged, RefuteJudged};
-ghost use Rattle.checker.specs.Views.{view, Left, plain, Handed, TrueNow};
+ghost use Rattle.checker.specs.Views.{Left, plain, Handed, TrueNow};
 ghost use Rattle.protocol.specs.Runs.{Did};
+ghost use Rattle.semantics.specs.Subject.{Atom};
+ghost use Rattle.std.specs.Prelude.{◌≡◌, List, ◌++◌, OnOk};
 
 use crate::checker::Checker;
 use crate::slip::{ModelSlip, Returned};
 use atoms::atom::GroundAtom;
-use calls::answer::{Check, Taken, Verdict};
+use calls::answer::Verdict;
 use calls::candidate::Candidate;
 use reading::raw::RawAtom;
 use refusals::refusal::Refusal;
 use refutes::refute::judge_refute;
-use shelves::placed::Placed;
 use shelves::stock::Shelf;
+use shelves::taken::Taken;
 
 impl<S: Shelf> Checker<S> {
     /// The ground atom that is written, if it may be added under the slip.
     fn judge_add(&self, slip: &ModelSlip, atom: &RawAtom) -> Result<GroundAtom, Refusal>
-        ensures { AddJudged (view S.Stock.list S.Shelf.free self.now) slip.now.number atom.now result }
+        ensures { AddJudged self.now.state slip.now atom.now result }
     {
-        self.own_model(slip.number)?;
+        self.own(slip)?;
         self.read_atom(atom)
     }
 
     /// Puts a ground atom, which may have nulls, into the overlay.
     pub fn add(&mut self, slip: &ModelSlip, atom: &RawAtom) -> Result<Taken, Refusal>
-        ensures did { Did (view S.Stock.list S.Shelf.free self.old) (Add slip.now.number atom.now result) (view S.Stock.list S.Shelf.free self.new) }
+        ensures did { Did self.old.state (Add slip.now atom.now result) self.new.state }
         ensures left { Left self.old result self.new }
     {
-        match self.judge_add(slip, atom) {
-            Ok(ground) => match self.put_atom(ground, self.nulls) {
-                Placed::Already => Ok(Taken::Already),
-                Placed::Full => Err(Refusal::OverlayFull),
-                Placed::At(place) => Ok(Taken::At(place)),
-            },
-            Err(refusal) => Err(refusal),
-        }
+        let ground = self.judge_add(slip, atom)?;
+        self.put_atom(ground, self.nulls)
+            .or(Err(Refusal::OverlayFull))
     }
 
     /// The verdict, if the pile refutes the query of the open model.
     fn judge_pile(&self, slip: &ModelSlip) -> Result<Verdict, Refusal>
-        ensures { RefuteJudged (view S.Stock.list S.Shelf.free self.now) slip.now.number result }
+        ensures judged { RefuteJudged self.now.state slip.now result }
+        ensures begins { OnOk result ((own : List Atom) × (self.now.state.pile ≡ self.now.state.facts ++ own)) }
     {
-        let query = self.own_model(slip.number)?;
-        match judge_refute(&self.pile, &self.book, query, self.patterns_of(query)) {
-            Ok(size) => Ok(Verdict::NotEntailed { query, size }),
-            Err(refusal) => Err(refusal),
-        }
+        let query = self.own(slip)?;
+        let size = judge_refute(&self.pile, &self.book, query, self.patterns_of(query))?;
+        Ok(Verdict::NotEntailed { query, size })
     }
 
     /// Shows that the query has no match in the pile, which is a model that obeys every constraint.
     pub fn refute<W: Candidate>(&mut self, slip: ModelSlip) -> Result<Verdict, Returned<ModelSlip>>
-        ensures did { Did (view S.Stock.list S.Shelf.free self.old) (Refute slip.number (plain result)) (view S.Stock.list S.Shelf.free self.new) }
+        ensures did { Did self.old.state (Refute slip (plain result)) self.new.state }
         ensures left { Left self.old result self.new }
         ensures back { Handed slip result }
-        ensures truth { TrueNow W.Candidate.has (view S.Stock.list S.Shelf.free self.old) (plain result) }
+        ensures truth { TrueNow W.Candidate.has self.old.state (plain result) }
     {
-        match self.judge_pile(&slip) {
-            Ok(verdict) => {
-                let ModelSlip { number: _ } = slip;
-                self.restart(Check::Shut);
-                Ok(verdict)
-            }
-            Err(refusal) => Err(Returned { refusal, slip }),
-        }
-    }
-
-    /// Gives a model up.
-    pub fn strike_model(&mut self, slip: ModelSlip) -> Result<(), Refusal>
-        ensures did { Did (view S.Stock.list S.Shelf.free self.old) (StrikeModel slip.number result) (view S.Stock.list S.Shelf.free self.new) }
-        ensures left { Left self.old result self.new }
-    {
-        let owned = self.own_model(slip.number);
-        let ModelSlip { number: _ } = slip;
-        match owned {
-            Ok(_) => {
-                self.restart(Check::Shut);
-                Ok(())
-            }
-            Err(refusal) => Err(refusal),
-        }
+        let judged = self.judge_pile(&slip);
+        self.close(slip, judged)
     }
 }

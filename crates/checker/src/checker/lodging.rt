@@ -1,21 +1,20 @@
 //! Lodging facts and reading atoms.
 ghost use Rattle.calls.specs.declared.event.Event.TheVariants.{Lodge};
 ghost use Rattle.checker.specs.Parts.{ReadsFact, ReadsAtom, LodgeJudged};
-ghost use Rattle.checker.specs.Views.{view, LodgeLeft};
+ghost use Rattle.checker.specs.Views.{LodgeLeft};
 ghost use Rattle.protocol.specs.Runs.{Did};
 
 use crate::checker::Checker;
 use atoms::atom::{Fact, GroundAtom};
-use calls::answer::{Check, Taken};
 use reading::raw::RawAtom;
 use refusals::refusal::Refusal;
-use shelves::placed::Placed;
 use shelves::stock::Shelf;
+use shelves::taken::Taken;
 
 impl<S: Shelf> Checker<S> {
     /// The fact that is written, as a ground atom.
     fn read_fact(&self, fact: &RawAtom) -> Result<GroundAtom, Refusal>
-        ensures { ReadsFact (view S.Stock.list S.Shelf.free self.now) fact.now result }
+        ensures { ReadsFact self.now.state fact.now result }
     {
         let fact: Fact = self.book.check(0, fact)?;
         Ok(fact.ground())
@@ -23,33 +22,27 @@ impl<S: Shelf> Checker<S> {
 
     /// The ground atom that is written.
     pub(crate) fn read_atom(&self, atom: &RawAtom) -> Result<GroundAtom, Refusal>
-        ensures { ReadsAtom (view S.Stock.list S.Shelf.free self.now) atom.now result }
+        ensures { ReadsAtom self.now.state atom.now result }
     {
         self.book.check(0, atom)
     }
 
     /// The fact that is written, if it may be lodged now.
     fn judge_lodge(&self, fact: &RawAtom) -> Result<GroundAtom, Refusal>
-        ensures { LodgeJudged (view S.Stock.list S.Shelf.free self.now) fact.now result }
+        ensures { LodgeJudged self.now.state fact.now result }
     {
-        match self.check {
-            Check::Shut => self.read_fact(fact),
-            _ => Err(Refusal::CheckOpen),
+        if self.check.is_some() {
+            return Err(Refusal::CheckOpen);
         }
+        self.read_fact(fact)
     }
 
     /// Puts a fact on the shelf, while no check is open.
     pub fn lodge(&mut self, fact: &RawAtom) -> Result<Taken, Refusal>
-        ensures did { Did (view S.Stock.list S.Shelf.free self.old) (Lodge fact.now result) (view S.Stock.list S.Shelf.free self.new) }
+        ensures did { Did self.old.state (Lodge fact.now result) self.new.state }
         ensures left { LodgeLeft self.old result self.new }
     {
-        match self.judge_lodge(fact) {
-            Ok(atom) => match self.put_fact(atom) {
-                Placed::Already => Ok(Taken::Already),
-                Placed::Full => Err(Refusal::ShelfFull),
-                Placed::At(place) => Ok(Taken::At(place)),
-            },
-            Err(refusal) => Err(refusal),
-        }
+        let atom = self.judge_lodge(fact)?;
+        self.put_fact(atom).or(Err(Refusal::ShelfFull))
     }
 }

@@ -1,5 +1,5 @@
 //! Questions to a checker, and its end.
-ghost use Rattle.checker.specs.Views.{view, Ended};
+ghost use Rattle.checker.specs.Views.{Ended};
 ghost use Rattle.overlays.specs.Stacked.{stacked};
 ghost use Rattle.std.specs.List.{slice_get};
 ghost use Rattle.std.specs.Prelude.{◌≡◌, length};
@@ -25,9 +25,9 @@ impl<S: Shelf> Checker<S> {
         self.pile.get(place)
     }
 
-    /// Which check is open.
-    pub fn check(&self) -> Check
-        ensures { result ≡ self.now.check }
+    /// Which check is open, if one is.
+    pub fn check(&self) -> Option<Check>
+        ensures { result ≡ self.now.state.check }
     {
         self.check
     }
@@ -36,18 +36,16 @@ impl<S: Shelf> Checker<S> {
     pub fn end(self) -> Result<(Book, S), Checker<S>>
         ensures { Ended self result }
     {
-        match self.check {
-            Check::Shut => {
-                let Checker {
-                    book,
-                    pile,
-                    number: _,
-                    check: _,
-                    nulls: _,
-                } = self;
-                Ok((book, pile.release()))
-            }
-            _ => Err(self),
+        if self.check.is_some() {
+            return Err(self);
         }
+        let Checker {
+            book,
+            pile,
+            number: _,
+            check: _,
+            nulls: _,
+        } = self;
+        Ok((book, pile.release()))
     }
 }

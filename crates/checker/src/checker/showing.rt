@@ -1,20 +1,18 @@
 //! Whether places show patterns.
 ghost use Rattle.checker.specs.Parts.{ShowJudged};
 ghost use Rattle.declarations.specs.Bodies.{patterns_meant};
-ghost use Rattle.matching.specs.Searches.{pile};
-ghost use Rattle.overlays.specs.Stacked.{stacked};
 
 use crate::checker::Checker;
 use calls::places::Places;
 use declarations::patterns::Patterns;
 use matching::places::fit_places;
 use refusals::refusal::Refusal;
-use shelves::stock::{Shelf, Stock};
+use shelves::stock::Shelf;
 
 impl<S: Shelf> Checker<S> {
     /// Refuses where the places do not show the patterns.
     pub(crate) fn show(&self, patterns: &Patterns, places: Places) -> Result<(), Refusal>
-        ensures { ShowJudged (pile (stacked S.Stock.list self.now.pile)) (patterns_meant patterns.now) places result }
+        ensures { ShowJudged self.now.state.pile (patterns_meant patterns.now) places result }
     {
         let patterns = patterns.as_slice();
         if places.count() != patterns.len() {
@@ -22,9 +20,7 @@ impl<S: Shelf> Checker<S> {
                 places: places.count(),
             });
         }
-        match fit_places(&self.pile, patterns, places.as_slice()) {
-            Ok(_) => Ok(()),
-            Err(refusal) => Err(refusal),
-        }
+        fit_places(&self.pile, patterns, places.as_slice())?;
+        Ok(())
     }
 }

@@ -1,12 +1,5 @@
-use Rattle.std.proofs.Common.{vec_items}
-use Rattle.matching.specs.Searches.{pile}
-use Rattle.checker.specs.Views.{view}
 use Rattle.runs.proofs.Walking.{lawful}
 use Rattle.runs.proofs.conduct.conduct.Goals as goal
 
 pub returns : goal.returns
-returns g c =
-    let see = view g.S.Stock.list g.S.Shelf.free in
-    let a = c.args in
-    lawful g.W.Candidate.has a.book a.number (g.S.Shelf.free a.shelf) (pile (g.S.Stock.list a.shelf)) (see c.new-checker.result) (see c.run.new.checker) a.calls.now (vec_items a.pool.now) (vec_items c.reserve.new.self) (vec_items c.run.new.pool) (vec_items a.log.now) (vec_items c.reserve-2.new.self) (vec_items c.run.new.log)
-    c.new-checker.ensures.state c.reserve.ensures.items c.reserve-2.ensures.items c.run.ensures
+returns g c = lawful _ _ _ (g.S.Shelf.free c.args.shelf) _ _ _ _ _ _ _ _ _ _ c.new-checker.ensures.state c.reserve.ensures.items c.reserve-else-is_err.ensures.items c.run.ensures

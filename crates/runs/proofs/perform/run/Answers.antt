@@ -1,27 +1,14 @@
-use Rattle.std.proofs.Common.{◌≡◌, ◌≤◌, length, take, vec_items, sym, subst, arith}
-use Rattle.std.proofs.lemmas.List.{take_all}
-use Rattle.checker.specs.Views.{view}
-use Rattle.runs.specs.Conducted.{Went}
+use Rattle.std.proofs.Common.{sym, arith}
 use Rattle.runs.proofs.Walking.{onward}
 use Rattle.runs.proofs.perform.run.Goals as goal
 
 pub loop-call-preserved : goal.loop-call-preserved
 loop-call-preserved g c =
-    let see = view g.S.Stock.list g.S.Shelf.free in
-    let a = c.args in
     let l = c.loop-call in
     let p = c.perform-event in
-    let n = c.push_reserved in (
-      onward (see a.checker.now) (see l.checker) (see p.new.checker) (vec_items a.pool.now) (vec_items l.pool) (vec_items p.new.pool) a.calls.now (vec_items a.log.now) (vec_items l.log) (vec_items n.new.self) l.call-index c.call-item.result p.result
-          c.loop-call-test.true (sym c.call-item.is) l.invariant.0 p.ensures.done n.ensures.items,
-      omega (arith, l.invariant.1, p.ensures.len, p.ensures.room, c.loop-call-test.true),
-      omega (arith, l.invariant.2, n.ensures.len, n.ensures.capacity, c.loop-call-test.true),
-    )
-
-pub returns : goal.returns
-returns g c =
-    let see = view g.S.Stock.list g.S.Shelf.free in
-    let a = c.args in
-    let l = c.loop-call in
-    let far : length a.calls.now ≤ l.call-index = c.loop-call-test.false in
-    subst (λ ks. Went (see a.checker.now) (vec_items a.pool.now) ks (vec_items a.log.now) (see l.checker) (vec_items l.pool) (vec_items l.log)) (take_all l.call-index a.calls.now far) l.invariant.0
+    let n = c.push_reserved in
+    record {
+      went = onward _ _ _ _ _ _ _ _ _ _ l.call-index _ p.result c.loop-call-test.true (sym c.call-item.is) l.invariant.went p.ensures.done n.ensures.items;
+      slots = omega (arith, p.ensures.len, p.ensures.room);
+      notes = omega (arith, n.ensures.len, n.ensures.capacity);
+    }

@@ -1,19 +1,13 @@
-use Rattle.std.proofs.Common.{refl, subst}
-use Rattle.semantics.specs.Subject.{On}
-use Rattle.matching.specs.Searches.{pile}
-use Rattle.overlays.specs.Stacked.{stacked}
-use Rattle.protocol.specs.Calls.{no_room}
+use Rattle.std.proofs.Common.{refl, ap}
+use Rattle.std.proofs.lemmas.Result.{err_from_is_err_and}
+use Rattle.checker.proofs.Judging.{added}
 use Rattle.checker.proofs.checker.Checker.add.Goals as goal
 
-pub returns-in-Already : goal.returns-in-Already
-returns-in-Already g c =
-    let h = c.in-Ok.ensures in
-    let f = c.in-Already.ensures in
-    record { did = (h.0.0, h.0.1, h.1, subst (On (pile (stacked g.S.Stock.list c.args.self.now.pile))) h.2 f.put.0, f.put.1); left = f.below }
+pub returns-in_err-ground-clause-did : goal.returns-in_err-ground-clause-did
+returns-in_err-ground-clause-did g c =
+    let p = err_from_is_err_and c.from_residual.result c.from_residual.ensures.1 in
+    rw (p.1, p.2) (c.in_err-ground.ensures, refl)
 
-pub returns-in-Full : goal.returns-in-Full
-returns-in-Full g c =
-    let h = c.in-Ok.ensures in
-    let f = c.in-Full.ensures in
-    let xs = pile (stacked g.S.Stock.list c.args.self.now.pile) in
-    record { did = (no_room h.0.0 (refl, refl, refl) h.0.1 h.1 (subst (λ a. On xs a → ⊥) h.2 f.put.0) f.put.1, f.put.2); left = f.full refl }
+pub returns-clause-did : goal.returns-clause-did
+returns-clause-did g c =
+    rw c.or.ensures (added _ _ _ _ _ c.in_ok-ground.ground c.put_atom-2.result (ap (λ s. s.state.nulls) c.put_atom.view_is) c.in_ok-ground.ensures c.put_atom-2.ensures.put)

@@ -1,18 +1,19 @@
-use Rattle.std.proofs.Common.{◌*◌, ◌≤◌, refl, arith}
+use Rattle.std.proofs.Common.{◌≤◌, refl, arith}
 use Rattle.book.specs.Tables.{entries}
 use Rattle.rules.specs.Meaning.{rule_meant}
+use Rattle.std.proofs.lemmas.Result.{err_from_is_err_and}
 use Rattle.protocol.specs.Calls.{no_rule}
-use Rattle.checker.specs.Views.{view}
-use Rattle.checker.proofs.Judging.{entry_none, entry_some, step_judged}
+use Rattle.checker.proofs.Judging.{absent, entry_none, entry_some, step_judged}
 use Rattle.checker.proofs.checker.Checker.judge_use.Goals as goal
 
-pub returns-in_default : goal.returns-in_default
-returns-in_default g c =
-    no_rule c.in_ok-own_derivation.field-0 (refl, refl, refl) c.in_ok-own_derivation.ensures.0 (entry_none rule_meant (entries c.args.self.now.book.rules) c.args.rule c.in_default.ensures)
+pub returns-in_err-found : goal.returns-in_err-found
+returns-in_err-found g c =
+    let p = err_from_is_err_and c.from_residual-in_err-found.result c.from_residual-in_err-found.ensures.1 in
+    let no = absent c.rule.result _ _ c.in_err-found.ensures.value in
+    rw (p.1, p.2, no.1) (no_rule c.in_ok-own.field-0 (refl, refl, refl) c.in_ok-own.ensures.0 (rw (← c.self.view_is) (entry_none _ rule_meant _ (entries c.self.inside.book.rules) c.args.rule c.rule.ensures no.0)))
 
 pub returns : goal.returns
 returns g c =
-    let d = c.args.self.now in
-    let few : d.nulls ≤ 1024 = omega (arith, d.few, d.pile.own.few) in
-    step_judged (view g.S.Stock.list g.S.Shelf.free d) c.args.slip.now.number c.in_ok-own_derivation.field-0 c.args.rule c.args.place c.in-Some.found.now c.judge_step.result c.in_ok-own_derivation.ensures.0 few
-    (entry_some rule_meant (entries d.book.rules) c.args.rule c.in-Some.found.now c.in-Some.ensures) c.judge_step.ensures
+    let few : c.self.inside.nulls ≤ 1024 = omega (arith, c.self.invariant.few, c.self.inside.pile.few) in
+    step_judged _ _ c.in_ok-own.field-0 _ _ c.in_ok-found.found.now c.judge_step.result c.in_ok-own.ensures.0 (rw (← c.self.view_is) few)
+    (rw (← c.self.view_is) (entry_some _ rule_meant c.rule.result (entries c.self.inside.book.rules) c.args.rule c.rule.ensures _ c.in_ok-found.ensures.ok_part)) (rw (← c.self.view_is) c.judge_step.ensures)
