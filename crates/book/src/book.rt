@@ -19,32 +19,13 @@ use rules::rule::Rule;
 /// The declared predicates with the rules, constraints and queries over them. It never changes.
 #[derive(Drop)]
 pub struct Book {
-    declarations: Declarations,
-    rules: Table<Rule, 64>,
-    constraints: Table<Patterns, 32>,
-    queries: Table<Patterns, 16>,
+    pub(crate) declarations: Declarations,
+    pub(crate) rules: Table<Rule, 64>,
+    pub(crate) constraints: Table<Patterns, 32>,
+    pub(crate) queries: Table<Patterns, 16>,
 }
 
 impl Book {
-    pub(crate) fn new(
-        declarations: Declarations,
-        rules: Table<Rule, 64>,
-        constraints: Table<Patterns, 32>,
-        queries: Table<Patterns, 16>,
-    ) -> Book
-        ensures declarations { result.declarations ≡ declarations }
-        ensures rules { result.rules ≡ rules }
-        ensures constraints { result.constraints ≡ constraints }
-        ensures queries { result.queries ≡ queries }
-    {
-        Book {
-            declarations,
-            rules,
-            constraints,
-            queries,
-        }
-    }
-
     /// The arity of the predicate of that number, if it is declared.
     pub fn arity(&self, predicate: usize) -> Option<Arity>
         ensures { option_map arity_value result ≡ numbered (arities_of self.now.declarations) predicate }
@@ -99,5 +80,19 @@ impl Book {
         ensures { result ≡ length (entries self.now.queries) }
     {
         self.queries.len()
+    }
+
+    /// The rules in order.
+    pub fn all_rules(&self) -> &[Rule]
+        ensures { result.now ≡ entries self.now.rules }
+    {
+        self.rules.as_slice()
+    }
+
+    /// The constraints in order.
+    pub fn all_constraints(&self) -> &[Patterns]
+        ensures { result.now ≡ entries self.now.constraints }
+    {
+        self.constraints.as_slice()
     }
 }

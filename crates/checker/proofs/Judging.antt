@@ -10,9 +10,8 @@ use Rattle.semantics.specs.Subject.{Slot, con, var, Binding, Candidate, numbered
 use Rattle.chase.specs.Chase.{fresh, fresh_slot, fresh_var}
 use Rattle.terms.specs.declared.term.Term.{Term}
 use Rattle.terms.specs.declared.pattern_term.PatternTerm.{PatternTerm}
-use Rattle.short_rows.specs.Rows.{listed}
+use Rattle.atoms.specs.Meaning.{pattern_meant}
 use Rattle.atoms.specs.declared.atom.Atom.{Atom}
-use Rattle.short_rows.specs.declared.row.Row.TheVariants.{One, Two, Three, Four}
 use Rattle.terms.specs.Meaning.{slot_meant}
 use Rattle.reading.specs.declared.raw.RawAtom.{RawAtom}
 use Rattle.refusals.specs.declared.refusal.Refusal.{Refusal}
@@ -85,23 +84,17 @@ fresh_few : (b : Binding) (n : ℕ) (ss : List Slot) → (fresh b n ss).1 ≤ n 
 fresh_few b n [] = omega arith
 fresh_few b n (s ∷ ss) = omega (arith, slot_few b n s, fresh_few (fresh_slot b n s).0 (fresh_slot b n s).1 ss)
 
-row_four : (r : List PatternTerm) → length (map slot_meant r) ≤ 4
-row_four (One a) = omega arith
-row_four (Two a b) = omega arith
-row_four (Three a b c) = omega arith
-row_four (Four a b c d) = omega arith
-
 pub step_judged : (s : State) (n q k p : ℕ) (rule : Rule) (r : Result Head Refusal) → OwnDerivation s n q → s.nulls ≤ 1024 → numbered (rules_of s.book) k ≡ Some (rule_meant rule) → Judged s.pile (rule_meant rule) p s.nulls r → StepJudged s n k p r
 step_judged s n q k p rule (Ok h) own few named (b, fires, bears) =
     let most = fresh_few b s.nulls (rule_meant rule).head.slots in
-    let row = row_four rule.head.terms in
+    let row : length (map slot_meant rule.head.terms) ≤ 4 = omega (arith, rule.few, length-map rule.head.terms slot_meant) in
     ((q, own), record { rule = rule_meant rule; named_rule = named; by = b; fires = fires; bears = bears }, omega (arith, most, row, bears.1))
 step_judged s n q k p rule (Err e) own few named (judged.past is none) = not_fired q (rule_meant rule) own named (stopping.past is none)
 step_judged s n q k p rule (Err e) own few named (judged.unfit i g a is there never) = not_fired q (rule_meant rule) own named (stopping.unfit i g a is there never)
 step_judged s n q k p rule (Err e) own few named (judged.missing j g a b i is there least first) = not_fired q (rule_meant rule) own named (stopping.missing j g a b i is there least first)
 step_judged s n q k p rule (Err e) own few named (judged.no_null b is fires over) =
     let most = fresh_few b s.nulls (rule_meant rule).head.slots in
-    let row = row_four rule.head.terms in
+    let row : length (map slot_meant rule.head.terms) ≤ 4 = omega (arith, rule.few, length-map rule.head.terms slot_meant) in
     absurd (omega (arith, most, row, over, few))
 
 module _ {S : Type 0} (c d : Seen S) (n : ℕ) where

@@ -1,5 +1,5 @@
 -- Declared predicates as the list of their arities.
-use Rattle.std.specs.Prelude.{◌≡◌, ℕ, suc, ◌≤◌, List, [], ◌∷◌, ◌++◌, map, length, take, Ok, Err, Result, ◌≢◌}
+use Rattle.std.specs.Prelude.{◌≡◌, ℕ, suc, ◌≤◌, List, [], ◌∷◌, ◌++◌, map, length, Ok, Err, Result, ◌≢◌}
 use Rattle.refusals.specs.Refusals.{Is}
 use Rattle.refusals.specs.declared.refusal.Refusal.{Refusal}
 use Rattle.declarations.specs.declared.arity.Arity.{Arity}
@@ -10,7 +10,7 @@ arity_value a = a.number
 
 -- the arities of predicates 1, 2, ..
 abbrev pub arities_of : Declarations → List ℕ
-arities_of d = map arity_value (take d.count d.items)
+arities_of d = map arity_value d.items.items
 
 -- x comes last and has number n
 abbrev pub Added : {A : Type 0} → List A → A → ℕ → List A → Type 0

@@ -10,13 +10,10 @@ use Rattle.reading.specs.declared.raw.RawAtom.{RawAtom}
 use Rattle.refusals.specs.declared.refusal.Refusal.{Refusal}
 use Rattle.terms.specs.declared.pattern_term.PatternTerm.{PatternTerm}
 use Rattle.declarations.specs.Checked.{Taken, AtomRefused}
-use Rattle.declarations.specs.declared.patterns.Patterns.{Patterns}
 
-abbrev pub patterns_listed : Patterns → List (Atom PatternTerm)
-patterns_listed ps = take ps.count ps.items
-
-abbrev pub patterns_meant : Patterns → List subject.Pattern
-patterns_meant ps = map pattern_meant (patterns_listed ps)
+-- patterns as the subject has them
+abbrev pub patterns_meant : List (Atom PatternTerm) → List subject.Pattern
+patterns_meant = map pattern_meant
 
 -- R holds between the first ones, the second ones, .., and there are equally many
 abbrev pub Pairwise : {A B : Type 0} → (A → B → Type 0) → List A → List B → Type 0
@@ -51,6 +48,6 @@ module _ (arities : List ℕ) where
     refused_atom : OneToFour (length raws) → FirstRefused raws e → PatternsRefused raws e
 
   -- the patterns that are written, or why they are refused
-  abbrev pub PatternsChecked : List RawAtom → Result Patterns Refusal → Type 0
-  PatternsChecked raws (Ok ps) = OneToFour (length raws) × Pairwise TakenAs raws (patterns_listed ps)
+  abbrev pub PatternsChecked : List RawAtom → Result (List (Atom PatternTerm)) Refusal → Type 0
+  PatternsChecked raws (Ok ps) = OneToFour (length raws) × Pairwise TakenAs raws ps
   PatternsChecked raws (Err e) = PatternsRefused raws e

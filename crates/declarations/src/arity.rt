@@ -2,7 +2,7 @@
 ghost use Rattle.std.specs.Prelude.{◌≡◌, ◌≤◌, MatchOption};
 
 /// An arity: a number from 1 to 4.
-#[derive(Clone, Copy)]
+#[derive(Clone, Copy, PartialEq, Eq, Debug)]
 pub struct Arity {
     number: u8,
     ghost low: { 1 ≤ number },
@@ -23,16 +23,18 @@ impl Arity {
         }
     }
 
-    /// The least arity.
-    pub(crate) fn one() -> Arity
-        ensures { result.number ≡ 1 }
-    {
-        Arity { number: 1 }
-    }
-
     pub fn number(self) -> usize
         ensures { result ≡ self.number }
     {
         self.number as usize
+    }
+}
+
+/// The least arity.
+impl Default for Arity {
+    ghost is_default = { λ a. a.number ≡ 1 };
+
+    fn default() -> Arity {
+        Arity { number: 1 }
     }
 }

@@ -24,19 +24,13 @@ impl Declarations {
             atom: index,
             terms: count,
         };
-        let Some(predicate) = Predicate::new(number) else {
-            return Err(undeclared);
-        };
-        let Some(arity) = self.arity(number) else {
-            return Err(undeclared);
-        };
+        let arity = self.arity(number).ok_or(undeclared)?;
+        let predicate = Predicate::new(number).ok_or(undeclared)?;
         if arity.number() != count {
             return Err(wrong_number);
         }
         // No arity is 0, so there are terms.
-        let Some(row) = raw.first() else {
-            return Err(wrong_number);
-        };
+        let row = raw.first().ok_or(wrong_number)?;
         match read_row::<T>(row) {
             Ok(terms) => Ok(Atom { predicate, terms }),
             Err(term) => Err(Refusal::TermNotAllowed { atom: index, term }),

@@ -1,16 +1,27 @@
 //! One to four patterns.
-ghost use Rattle.std.specs.Prelude.{◌≡◌, ◌≤◌, length};
+ghost use Rattle.declarations.specs.Arities.{arities_of};
+ghost use Rattle.declarations.specs.Bodies.{PatternsChecked};
 
+use crate::declarations::Declarations;
 use atoms::atom::Pattern;
+use reading::raw::RawAtom;
+use refusals::refusal::Refusal;
+use short_rows::row::Row;
 
-mod making;
+/// One to four patterns, in order.
+pub type Patterns = Row<Pattern>;
 
-/// One to four patterns, in order. The places past `count` mean nothing.
-#[derive(Clone, Copy)]
-pub struct Patterns {
-    items: [Pattern; 4],
-    count: usize,
-    ghost some: { 1 ≤ count },
-    ghost few: { count ≤ 4 },
-    ghost whole: { length items ≡ 4 },
+impl Declarations {
+    /// The patterns that are written, one to four.
+    #[tactic(auto, using(crate::proofs::Pairing::tries_checked))]
+    pub fn check_patterns(&self, raws: &[RawAtom]) -> Result<Patterns, Refusal>
+        ensures { PatternsChecked (arities_of self.now) raws.now result }
+    {
+        let Some(row) = Row::from_slice(raws) else {
+            return Err(Refusal::WrongNumberOfPatterns {
+                patterns: raws.len(),
+            });
+        };
+        row.try_map(|index, raw| self.check(index, &raw))
+    }
 }

@@ -11,10 +11,9 @@ use Rattle.refusals.specs.declared.refusal.Refusal.{Refusal}
 use Rattle.refusals.specs.declared.refusal.Refusal.TheVariants.{NoGuard}
 use Rattle.terms.specs.declared.pattern_term.PatternTerm.{PatternTerm}
 use Rattle.declarations.specs.Bodies as bodies
-use Rattle.declarations.specs.Bodies.{OneToFour, Fine, FirstRefused, PatternsRefused, Pairwise, TakenAs, patterns_listed}
+use Rattle.declarations.specs.Bodies.{OneToFour, Fine, FirstRefused, PatternsRefused, Pairwise, TakenAs}
 use Rattle.declarations.specs.Checked.{AtomRefused}
 use Rattle.rules.specs.Rules.{MakesRule, Written, RuleRefused, RuleChecked, wrong_number, refused_atom, unguarded}
-use Rattle.declarations.specs.declared.patterns.Patterns.{Patterns}
 use Rattle.rules.specs.declared.rule.Rule.{Rule}
 use Rattle.declarations.proofs.Pairing.{all_fine}
 
@@ -64,7 +63,7 @@ module _ (arities : List ℕ) (body : List RawAtom) (head : RawAtom) where
         refused = refused;
       })
 
-  pub rule_made : (b : Patterns) (h : Atom PatternTerm) (o : Option Rule) → OneToFour (length body) → Written arities body head b h → MakesRule b h o → RuleChecked arities body head (ok_or o NoGuard)
+  pub rule_made : (b : List (Atom PatternTerm)) (h : Atom PatternTerm) (o : Option Rule) → OneToFour (length body) → Written arities body head b h → MakesRule b h o → RuleChecked arities body head (ok_or o NoGuard)
   rule_made b h None few w u = unguarded few b h w u (refl, refl, refl)
   rule_made b h (Some r) few w u =
-      (few, (subst (λ (x : Patterns). Pairwise (TakenAs arities) body (patterns_listed x)) (sym u.0) w.0, subst (TakenAs arities head) (sym u.1) w.1))
+      (few, (subst (λ (x : List (Atom PatternTerm)). Pairwise (TakenAs arities) body x) (sym u.0) w.0, subst (TakenAs arities head) (sym u.1) w.1))

@@ -24,19 +24,20 @@ impl Draft {
         let rules = Table::new(heap)?;
         let constraints = Table::new(heap)?;
         let queries = Table::new(heap)?;
-        Ok(Draft {
+        let book = Book {
             declarations: Declarations::new(),
             rules,
             constraints,
             queries,
-        })
+        };
+        Ok(Draft { book })
     }
 
     /// Declares a predicate of that arity, and answers its number.
     pub fn declare(&mut self, arity: usize) -> Result<usize, Refusal>
         ensures { DeclareDone self.old arity result self.new }
     {
-        self.declarations.declare(arity)
+        self.book.declarations.declare(arity)
     }
 
     /// Writes down a rule, and answers its number.
@@ -44,46 +45,39 @@ impl Draft {
         ensures { RuleDone self.old body.now head.now result self.new }
     {
         let rule = self.judge_rule(body, head)?;
-        Ok(self.rules.add(rule))
+        Ok(self.book.rules.add(rule))
     }
 
     /// The rule that is written, if there is room for it.
     fn judge_rule(&self, body: &[RawAtom], head: &RawAtom) -> Result<Rule, Refusal>
-        ensures { Judged (Full 64 self.now.rules) (RuleChecked (arities_of self.now.declarations) body.now head.now) result }
+        ensures { Judged (Full 64 self.now.book.rules) (RuleChecked (arities_of self.now.book.declarations) body.now head.now) result }
     {
-        self.rules.check_room()?;
-        check_rule(&self.declarations, body, head)
+        self.book.rules.check_room()?;
+        check_rule(&self.book.declarations, body, head)
     }
 
     /// Writes down a constraint, and answers its number.
     pub fn constraint(&mut self, patterns: &[RawAtom]) -> Result<usize, Refusal>
         ensures { ConstraintDone self.old patterns.now result self.new }
     {
-        let constraint = judge(&self.declarations, &self.constraints, patterns)?;
-        Ok(self.constraints.add(constraint))
+        let constraint = judge(&self.book.declarations, &self.book.constraints, patterns)?;
+        Ok(self.book.constraints.add(constraint))
     }
 
     /// Writes down a query, and answers its number.
     pub fn query(&mut self, patterns: &[RawAtom]) -> Result<usize, Refusal>
         ensures { QueryDone self.old patterns.now result self.new }
     {
-        let query = judge(&self.declarations, &self.queries, patterns)?;
-        Ok(self.queries.add(query))
+        let query = judge(&self.book.declarations, &self.book.queries, patterns)?;
+        Ok(self.book.queries.add(query))
     }
 
     /// The book of what was written down.
     pub fn seal(self) -> Book
-        ensures declarations { result.declarations ≡ self.declarations }
-        ensures rules { result.rules ≡ self.rules }
-        ensures constraints { result.constraints ≡ self.constraints }
-        ensures queries { result.queries ≡ self.queries }
+        ensures { result ≡ self.book }
     {
-        Book::new(
-            self.declarations,
-            self.rules,
-            self.constraints,
-            self.queries,
-        )
+        let Draft { book } = self;
+        book
     }
 }
 

@@ -33,17 +33,14 @@ impl<T: Drop, const N: usize> Table<T, N> {
         if number == 0 {
             return None;
         }
-        self.at(number - 1)
+        self.as_slice().get(number - 1)
     }
 
-    fn at(&self, index: usize) -> Option<&T>
-        ensures { option_map (λ x. x.now) result ≡ slice_get (entries self.now) index }
+    /// The entries in order.
+    pub fn as_slice(&self) -> &[T]
+        ensures { result.now ≡ entries self.now }
     {
-        if index < self.len() {
-            Some(&self.items[index])
-        } else {
-            None
-        }
+        self.items.as_slice()
     }
 
     /// Refuses where the table is full.

@@ -24,38 +24,25 @@ fn covered(term: PatternTerm, pattern: &Pattern) -> bool
 fn covers(pattern: &Pattern, other: &Pattern) -> bool
     ensures { result ≡ slots-cover (slots_meant other.now) (slots_meant pattern.now) }
 {
-    for i in 0..other.terms.len() {
-        if let Some(term) = other.terms.get(i) {
-            if !covered(term, pattern) {
-                return false;
-            }
-        }
-    }
-    true
+    other
+        .terms
+        .as_slice()
+        .iter()
+        .all(|term| covered(*term, pattern))
 }
 
 /// Whether `pattern` has every variable of the body.
 fn covers_body(pattern: &Pattern, body: &[Pattern]) -> bool
     ensures { result ≡ covers_all (map pattern_meant body.now) (slots_meant pattern.now) }
 {
-    for other in body {
-        if !covers(pattern, other) {
-            return false;
-        }
-    }
-    true
+    body.iter().all(|other| covers(pattern, other))
 }
 
 /// The index of the first pattern that has every variable of the body.
 fn first_covering(body: &[Pattern]) -> Option<usize>
     ensures { result ≡ guard (map pattern_meant body.now) }
 {
-    for (i, pattern) in body.iter().enumerate() {
-        if covers_body(pattern, body) {
-            return Some(i);
-        }
-    }
-    None
+    body.iter().position(|pattern| covers_body(pattern, body))
 }
 
 /// The index of the guard of the body, if there is one.

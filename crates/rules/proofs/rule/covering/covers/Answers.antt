@@ -1,20 +1,12 @@
-use Rattle.std.proofs.Common.{map, sym, ◌∙◌, arith}
-use Rattle.semantics.specs.Computed.{covers}
-use Rattle.std.proofs.lemmas.List.{at_drop_all}
+use Rattle.std.proofs.Common.{rules, tests, ◌∙◌}
+use Rattle.std.proofs.lemmas.Iterator.{YieldsList-from_slice}
+use Rattle.std.proofs.lemmas.Iterator.Search.{all_from_yields_List}
 use Rattle.terms.specs.Meaning.{slot_meant}
-use Rattle.rules.specs.Covering.{slots_meant}
-use Rattle.rules.proofs.Scanning.{covers_more, nth_within}
+use Rattle.rules.specs.Covering.{slot_covered, slots_meant}
+use Rattle.rules.proofs.Scanning.{all_covered}
 use Rattle.rules.proofs.rule.covering.covers.Goals as goal
-use Rattle.rules.proofs.rule.covering.covers.Goals.{in-Some+else-not-covered, in_default}
-
-pub loop-i-preserved : goal.loop-i-preserved
-loop-i-preserved c =
-    let ts = c.args.other.now.terms in
-    elim c.match-get.branch [
-      | in-Some+else-not-covered w ↦ covers_more ts c.loop-i.i w.in-Some.term (slots_meant c.args.pattern.now) (sym c.get.ensures ∙ w.in-Some.is) (sym w.covered.ensures ∙ w.if-not-covered.false) ∙ c.loop-i.invariant
-      | in_default w ↦ absurd (nth_within ts c.loop-i.i (sym c.get.ensures ∙ w.in_default.is) (omega arith))
-    ]
 
 pub returns : goal.returns
 returns c =
-    sym (at_drop_all (λ us. covers (map slot_meant us) (slots_meant c.args.pattern.now)) c.args.other.now.terms c.loop-i.i (omega arith)) ∙ c.loop-i.invariant
+    let q = slots_meant c.args.pattern.now in
+    all_from_yields_List (λ t. slot_covered (slot_meant t) q) _ _ c.all.result c.all.ensures.ran (YieldsList-from_slice c.args.other.now.terms (search rules)) (λ x b f k. search (rules, tests)) ∙ all_covered q c.args.other.now.terms
