@@ -17,7 +17,7 @@ pub(crate) struct Missing;
 pub(crate) fn atom(number: u32) -> Result<GroundAtom, Missing> {
     let predicate = Predicate::new(1).ok_or(Missing)?;
     let constant = Constant::new(number).ok_or(Missing)?;
-    let terms = Row::One(Term::Constant(constant));
+    let terms = Row::one(Term::Constant(constant));
     Ok(Atom { predicate, terms })
 }
 
