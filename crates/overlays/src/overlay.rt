@@ -5,6 +5,8 @@ use arrayvec::ArrayVec;
 use shelves::record::Record;
 use shelves::stock::{Shelf, Stock};
 use shelves::taken::Full;
+use std::error::Error;
+use std::fmt;
 
 mod takes;
 
@@ -73,3 +75,19 @@ impl From<Full> for NotLowered {
         NotLowered::Full
     }
 }
+
+impl fmt::Display for NotLowered {
+    ghost use Rattle.std.specs.Prelude.{Some};
+    ghost use Rattle.overlays.specs.Shown.{not_lowered_shown};
+
+    ghost output = { λ e. Some (not_lowered_shown e) };
+
+    fn fmt<W: fmt::Write>(&self, f: &mut fmt::Formatter<W>) -> fmt::Result {
+        match self {
+            NotLowered::NotEmpty { own } => write!(f, "the overlay has {own} of its own"),
+            NotLowered::Full => f.write_str("full"),
+        }
+    }
+}
+
+impl Error for NotLowered {}

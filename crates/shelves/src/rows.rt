@@ -17,7 +17,7 @@ pub fn front(rows: &[Record], used: usize) -> &[Record]
 pub fn stands(rows: &[Record], atom: &GroundAtom) -> bool
     ensures { Decides result (Contains (map atom_of rows.now) atom.now) }
 {
-    rows.iter().any(|row| holds(row, atom))
+    rows.iter().any(|row| same(&row.atom, atom))
 }
 
 /// The atom of the record at that place, if there is one.
@@ -25,11 +25,4 @@ pub fn at(rows: &[Record], place: usize) -> Option<GroundAtom>
     ensures { result ≡ slice_get (map atom_of rows.now) place }
 {
     rows.get(place).map(|row| row.atom)
-}
-
-/// Whether the record holds the atom.
-fn holds(row: &Record, atom: &GroundAtom) -> bool
-    ensures { Decides result (row.now.atom ≡ atom.now) }
-{
-    same(&row.atom, atom)
 }

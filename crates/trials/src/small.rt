@@ -3,6 +3,7 @@
 use crate::raw::{one, two, v};
 use book::book::Book;
 use book::draft::Draft;
+use reading::raw::RawAtom;
 use refusals::refusal::Refusal;
 use std::alloc::Global;
 use std::test::Fail;
@@ -18,20 +19,25 @@ pub fn small_book(heap: Global) -> Result<Book, Fail> {
 }
 
 fn write_rules(draft: &mut Draft) -> Result<(), Refusal> {
-    let thing = one(1, v(1));
-    let pair = two(2, v(1), v(2));
-    draft.rule(&[thing], &pair)?;
-    draft.rule(&[pair, one(3, v(1))], &one(3, v(2)))?;
-    draft.rule(&[thing], &two(2, v(3), v(2)))?;
+    draft.rule(&[thing()], &pair())?;
+    draft.rule(&[pair(), one(3, v(1))], &one(3, v(2)))?;
+    draft.rule(&[thing()], &two(2, v(3), v(2)))?;
     draft.constraint(&[two(2, v(1), v(1))])?;
     Ok(())
 }
 
 fn write_queries(draft: &mut Draft) -> Result<(), Refusal> {
-    let pair = two(2, v(1), v(2));
-    draft.query(&[pair])?;
+    draft.query(&[pair()])?;
     draft.query(&[two(2, v(1), v(1))])?;
     draft.query(&[one(3, v(1))])?;
-    draft.query(&[one(1, v(1)), pair])?;
+    draft.query(&[thing(), pair()])?;
     Ok(())
+}
+
+fn thing() -> RawAtom {
+    one(1, v(1))
+}
+
+fn pair() -> RawAtom {
+    two(2, v(1), v(2))
 }

@@ -1,7 +1,5 @@
-use Rattle.std.proofs.Common.{◌≡◌, length, map, sym, ◌∙◌}
 use Rattle.std.proofs.lemmas.List.{length-map}
 use Rattle.std.proofs.lemmas.Result.{err_from_is_err_and}
-use Rattle.atoms.specs.Meaning.{pattern_meant}
 use Rattle.fitting.specs.Bindings.{bound}
 use Rattle.protocol.specs.Calls.{unplaced}
 use Rattle.checker.proofs.checker.Checker.show.Goals as goal
