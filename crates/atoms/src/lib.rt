@@ -4,4 +4,5 @@
 pub mod atom;
 mod exactness;
 pub mod fact;
+mod shown;
 pub mod variables;

@@ -1,4 +1,8 @@
 //! What a checker answers.
+ghost use Rattle.calls.specs.Shown.{verdict_shown};
+ghost use Rattle.std.specs.Prelude.{Some};
+
+use std::fmt;
 
 /// What an accepted certificate shows.
 #[derive(Clone, Copy, PartialEq, Eq, Debug)]
@@ -23,6 +27,26 @@ pub enum Verdict {
         /// How many atoms that model has.
         size: usize,
     },
+}
+
+impl fmt::Display for Verdict {
+    ghost output = { λ v. Some (verdict_shown v) };
+
+    fn fmt<W: fmt::Write>(&self, f: &mut fmt::Formatter<W>) -> fmt::Result {
+        match self {
+            Verdict::Entailed {
+                query,
+                added,
+                nulls,
+            } => write!(f, "entailed {query} {added} {nulls}"),
+            Verdict::Inconsistent {
+                constraint,
+                added,
+                nulls,
+            } => write!(f, "inconsistent {constraint} {added} {nulls}"),
+            Verdict::NotEntailed { query, size } => write!(f, "not-entailed {query} {size}"),
+        }
+    }
 }
 
 /// A check, and the query that it is of.

@@ -1,5 +1,6 @@
 -- Answers of the parts, put together.
 use Rattle.std.proofs.Common.{◌≡◌, ℕ, ◌+◌, ◌-◌, ◌≤◌, ◌≢◌, Bool, true, false, cond, eqb, List, [], ◌∷◌, ◌++◌, map, length, Some, None, Ok, Err, Option, Result, sym, refl, ap, ◌∙◌, arith}
+use Rattle.std.proofs.lemmas.List.{length-map}
 use Rattle.std.specs.Result.{OnOk}
 use Rattle.std.specs.List.{slice_get}
 use Rattle.std.specs.Option.{option_map, ok_or}
@@ -25,7 +26,7 @@ use Rattle.rules.specs.Meaning.{rule_meant}
 use Rattle.rules.specs.declared.rule.Rule.{Rule}
 use Rattle.book.specs.Theory.{rules_of}
 use Rattle.calls.specs.declared.answer.Verdict.{Verdict}
-use Rattle.calls.specs.declared.places.Places.{Places}
+use Rattle.calls.specs.Named.{Places}
 use Rattle.steps.specs.Judged as judged
 use Rattle.steps.specs.Judged.{Judged}
 use Rattle.steps.specs.Stopping as stopping

@@ -17,7 +17,7 @@ use Rattle.book.specs.Theory.{predicates_of, rules_of, constraints_of}
 use Rattle.calls.specs.declared.answer.Check.{Check}
 use Rattle.calls.specs.declared.answer.Verdict.{Verdict}
 use Rattle.calls.specs.declared.answer.Verdict.TheVariants.{Entailed, Inconsistent, NotEntailed}
-use Rattle.calls.specs.declared.places.Places.{Places}
+use Rattle.calls.specs.Named.{Places}
 use Rattle.chase.specs.Refuting.{Refutes}
 use Rattle.chase.specs.Unfit.{FirstUnfit}
 use Rattle.steps.specs.declared.step.Head.{Head}

@@ -5,7 +5,8 @@ use Rattle.semantics.specs.Subject.{Slot, con, var, Pattern, Atom, Binding, Fits
 use Rattle.chase.specs.Chase.{State, start}
 use Rattle.chase.specs.Refuting.{Refuted}
 use Rattle.declarations.specs.Bodies.{patterns_meant}
-use Rattle.declarations.specs.declared.patterns.Patterns.{Patterns}
+use Rattle.atoms.specs.declared.atom.Atom as code
+use Rattle.terms.specs.declared.pattern_term.PatternTerm.{PatternTerm}
 use Rattle.rules.specs.Rules.{Unguarded}
 use Rattle.refusals.specs.Refusals.{Is}
 use Rattle.refusals.specs.declared.refusal.Refusal.{Refusal}
@@ -38,7 +39,7 @@ pub record Edges : Type 0 where
   -- `1 v1,2 v1 v2,3 v2;2 v2 v3` has its guard at index 1
   pub guard_in_the_middle : Guards (pat 1 (var 1 ∷ []) ∷ pat 2 (var 1 ∷ var 2 ∷ []) ∷ pat 3 (var 2 ∷ []) ∷ []) 1
   -- `2 v1 v2,2 v2 v3;2 v1 v3` has none, for which the draft refuses it by 6
-  pub unguarded : (body : Patterns) → patterns_meant body ≡ pat 2 (var 1 ∷ var 2 ∷ []) ∷ pat 2 (var 2 ∷ var 3 ∷ []) ∷ [] → Unguarded body
+  pub unguarded : (body : List (code.Atom PatternTerm)) → patterns_meant body ≡ pat 2 (var 1 ∷ var 2 ∷ []) ∷ pat 2 (var 2 ∷ var 3 ∷ []) ∷ [] → Unguarded body
   -- `1 17;1 18` has its guard at index 0
   pub guard_without_variables : Guards (pat 1 (con 17 ∷ []) ∷ []) 0
   -- `1 v1;2 v1 v2` on the fact `1 17` gives `2 17 n0`

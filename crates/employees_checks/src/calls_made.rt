@@ -1,6 +1,6 @@
 //! The calls of a day: facts lodged, a derivation, a counter-model, a constraint met, and calls that are refused.
 use crate::personnel::{ADA, BILL, FINANCE, JO, TOYS, V1};
-use calls::call::Call;
+use calls::call::{Call, SlipCall};
 use calls::places::Places;
 use reading::raw::{RawAtom, RawTerm};
 
@@ -29,14 +29,8 @@ pub(crate) fn derivation() -> [Call; 9] {
         step(slot, 3, 7),
         step(slot, 4, 8),
         step(slot, 3, 3),
-        Call::Claim {
-            slot,
-            places: Places::new(&[0]),
-        },
-        Call::Claim {
-            slot,
-            places: Places::new(&[7]),
-        },
+        claim(slot, &[0]),
+        claim(slot, &[7]),
         step(slot, 2, 6),
     ]
 }
@@ -51,10 +45,10 @@ pub(crate) fn counter_model() -> [Call; 10] {
         add(slot, RawAtom::new(4, &[ADA, BILL])),
         add(slot, RawAtom::new(5, &[BILL, TOYS])),
         add(slot, RawAtom::new(6, &[JO, FINANCE, ADA])),
-        Call::Refute { slot },
+        under(slot, SlipCall::Refute),
         add(slot, RawAtom::new(6, &[ADA, TOYS, V1])),
         add(slot, RawAtom::new(6, &[ADA, TOYS, BILL])),
-        Call::Refute { slot },
+        under(slot, SlipCall::Refute),
     ]
 }
 
@@ -66,26 +60,31 @@ pub(crate) fn clash() -> [Call; 9] {
         Call::Lodge(RawAtom::new(1, &[BILL])),
         Call::OpenDerivation(9),
         Call::OpenDerivation(1),
-        Call::Clash {
-            slot,
-            constraint: 2,
-            places: Places::new(&[1, 7]),
-        },
-        Call::Clash {
-            slot,
-            constraint: 1,
-            places: Places::new(&[1, 7]),
-        },
+        meet(slot, 2, &[1, 7]),
+        meet(slot, 1, &[1, 7]),
         Call::OpenModel(2),
-        Call::Strike { slot: 3 },
-        Call::Strike { slot: 3 },
+        under(3, SlipCall::Strike),
+        under(3, SlipCall::Strike),
     ]
 }
 
+fn under(slot: usize, call: SlipCall) -> Call {
+    Call::Under { slot, call }
+}
+
 fn step(slot: usize, rule: usize, place: usize) -> Call {
-    Call::Step { slot, rule, place }
+    under(slot, SlipCall::Step { rule, place })
 }
 
 fn add(slot: usize, atom: RawAtom) -> Call {
-    Call::Add { slot, atom }
+    under(slot, SlipCall::Add(atom))
+}
+
+fn claim(slot: usize, places: &[usize]) -> Call {
+    under(slot, SlipCall::Claim(Places::new(places)))
+}
+
+fn meet(slot: usize, constraint: usize, places: &[usize]) -> Call {
+    let places = Places::new(places);
+    under(slot, SlipCall::Clash { constraint, places })
 }

@@ -10,8 +10,8 @@ use calls::candidate::Candidate;
 use calls::event::Event;
 use checker::checker::Checker;
 use flat_shelf::flat::FlatShelf;
-use runs::conduct::{Unmade, conduct};
-use runs::pool::Slot;
+use runs::conduct::conduct;
+use runs::pool::{HeldSlip, Slot};
 use shelves::record::Record;
 use shelves::stock::Shelf;
 use std::alloc::{AllocError, Global};
@@ -25,15 +25,18 @@ impl Candidate for Everything {
 
 /// Makes all calls on a shelf of eight records, and prints each with its answer.
 pub(crate) fn check_all(rt: &HostRuntime, book: Book) -> anyhow::Result<()> {
-    let calls = all_calls(rt.alloc())?;
     let mut records = [Record::blank(); 8];
-    let shelf = FlatShelf::new(&mut records);
+    check_on(rt, book, FlatShelf::new(&mut records))
+}
+
+/// The same on that shelf.
+fn check_on<S: Shelf + Drop>(rt: &HostRuntime, book: Book, shelf: S) -> anyhow::Result<()> {
+    let calls = all_calls(rt.alloc())?;
     let mut pool = Vec::new(rt.alloc());
     let mut log = Vec::new(rt.alloc());
-    let made = conduct::<Everything, FlatShelf<'_>>(book, shelf, 7, &calls, &mut pool, &mut log);
-    match made {
-        Ok(mut checker) => strike_all(&mut checker, pool),
-        Err(Unmade { book: _, shelf: _ }) => {
+    match conduct::<Everything, S>(book, shelf, 7, &calls, &mut pool, &mut log) {
+        Ok(checker) => strike_all(checker, pool),
+        Err(_) => {
             pool.destroy_empty();
             return Err(anyhow!("no memory"));
         }
@@ -54,15 +57,15 @@ fn all_calls(heap: Global) -> Result<Vec<Call>, AllocError> {
 }
 
 /// Spends what slips are left in the pool.
-fn strike_all<S: Shelf>(checker: &mut Checker<S>, mut pool: Vec<Slot>) {
+fn strike_all<S: Shelf + Drop>(mut checker: Checker<S>, mut pool: Vec<Slot>) {
     while let Some(slot) = pool.pop() {
         match slot {
-            Slot::Empty => {}
-            Slot::Derivation(slip) => {
-                let _ = checker.strike_derivation(slip);
+            None => {}
+            Some(HeldSlip::Derivation(slip)) => {
+                let _ = checker.strike(slip);
             }
-            Slot::Model(slip) => {
-                let _ = checker.strike_model(slip);
+            Some(HeldSlip::Model(slip)) => {
+                let _ = checker.strike(slip);
             }
         }
     }

@@ -1,24 +1,29 @@
 //! Cutting bytes into lines.
 ghost use Rattle.frames.specs.Frames.{lines_of};
-ghost use Rattle.std.specs.Prelude.{◌≡◌, map, IfOk};
+ghost use Rattle.std.specs.Prelude.{◌≡◌, ◌==◌, map, IfOk};
+ghost use Rattle.std.specs.List.{slice_split};
 ghost use Rattle.std.specs.Option.{option_map};
+ghost use Rattle.words.specs.Reads.{IfRead};
 
 use std::alloc::{AllocError, Global};
+use words::error::ReadError;
 
-/// The lines, without the byte 10 that ends each; none where the last is not ended.
-pub(crate) fn split<'a>(heap: Global, bytes: &'a [u8]) -> Result<Option<Vec<&'a [u8]>>, AllocError>
-    ensures { IfOk result (λ o. option_map (λ v. map (λ l. l.now) v.items) o ≡ lines_of bytes.now) }
+/// The parts between the bytes 10.
+fn parts<'a>(heap: Global, bytes: &'a [u8]) -> Result<Vec<&'a [u8]>, AllocError>
+    ensures { IfOk result (λ v. map (λ l. l.now) v.items ≡ slice_split (λ b. b == 10) bytes.now) }
 {
-    let mut out = Vec::new(heap);
-    let mut start = 0;
-    for (i, byte) in bytes.iter().enumerate() {
-        if *byte == b'\n' {
-            out.push(&bytes[start..i])?;
-            start = i + 1;
-        }
+    bytes.split(|byte| *byte == b'\n').collect(heap)
+}
+
+/// The lines, without the byte 10 that ends each.
+pub(crate) fn split<'a>(heap: Global, bytes: &'a [u8]) -> Result<Vec<&'a [u8]>, ReadError>
+    ensures { IfRead result (λ o. option_map (λ v. map (λ l. l.now) v.items) o ≡ lines_of bytes.now) }
+{
+    let mut lines = parts(heap, bytes)?;
+    let rest = lines.pop().ok_or(ReadError::Broken)?;
+    if rest.is_empty() {
+        Ok(lines)
+    } else {
+        Err(ReadError::Broken)
     }
-    if start < bytes.len() {
-        return Ok(None);
-    }
-    Ok(Some(out))
 }

@@ -1,5 +1,6 @@
 -- The reading of each kind of line is the inverse of its writing.
-use Rattle.std.proofs.Common.{◌≡◌, ℕ, ◌^◌, ◌<◌, ◌≤◌, Bool, true, false, cond, ◌&&◌, eqb, leb, List, [], ◌∷◌, ◌++◌, map, length, get_or, drop, Some, None, decimal, Option, sym, refl, ap, ◌∙◌, subst, append-nil, arith}
+use Rattle.std.proofs.Common.{◌≡◌, ℕ, ◌^◌, ◌<◌, ◌≤◌, false, cond, ◌&&◌, eqb, leb, List, [], ◌∷◌, ◌++◌, map, length, get_or, drop, Some, None, decimal, Option, option_and_then, sym, refl, ap, ◌∙◌, subst, append-nil, arith}
+use Rattle.std.proofs.lemmas.Option.{none-some, cond_some}
 use Rattle.std.specs.List.{flat_map, AllByRecursion}
 use Rattle.std.specs.Option.{option_map}
 use Rattle.std.proofs.lemmas.List.{append_assoc, length-map}
@@ -8,30 +9,24 @@ use Rattle.reading.specs.declared.raw.RawTerm.{RawTerm}
 use Rattle.reading.specs.declared.raw.RawTerm.TheVariants as raw
 use Rattle.words.specs.Words.{term_text}
 use Rattle.words.proofs.Inverse.{Inverse}
-use Rattle.words.proofs.Scans.{no_none}
 use Rattle.lines.specs.Atoms.{Said, atom_text, SmallTerm, GoodAtom}
-use Rattle.lines.specs.Sentences.{Spoken, list_text, spoken_text, GoodSpoken, bound, spoken_of}
+use Rattle.lines.specs.Sentences.{Spoken, list_text, spoken_text, GoodSpoken, spoken_of}
 use Rattle.lines.proofs.Speech.{spoken_inverse}
 use Rattle.kinds.specs.Kinds.{Ruled, rule_text, GoodList, GoodRule, numbers_text, Asked, open_derivation, open_model, step, add, lodge, claim, clash, refute, strike, asked_text, SmallNumber, GoodAsked, sole_of, few_of, plain_of, rule_from, if_bare, barely, numbers_of, numbered_of, fact_of, list_of, rule_of, no_terms, arity_of, asked_with, asked_of}
 
 -- one reading after another
-chain : {X Y : Type 0} (GoodY : Y → Type 0) (textY : Y → List ℕ) (read_y : List ℕ → Option Y) → Inverse GoodY textY read_y → (Good : X → Type 0) (text : X → List ℕ) (pick : Y → Option X) (embed : X → Y) → ((x : X) → text x ≡ textY (embed x)) → ((y : Y) (x : X) → GoodY y → pick y ≡ Some x → Good x × (embed x ≡ y)) → ((x : X) → Good x → GoodY (embed x) × (pick (embed x) ≡ Some x)) → Inverse Good text (λ bs. bound pick (read_y bs))
+chain : {X Y : Type 0} (GoodY : Y → Type 0) (textY : Y → List ℕ) (read_y : List ℕ → Option Y) → Inverse GoodY textY read_y → (Good : X → Type 0) (text : X → List ℕ) (pick : Y → Option X) (embed : X → Y) → ((x : X) → text x ≡ textY (embed x)) → ((y : Y) (x : X) → GoodY y → pick y ≡ Some x → Good x × (embed x ≡ y)) → ((x : X) → Good x → GoodY (embed x) × (pick (embed x) ≡ Some x)) → Inverse Good text (λ bs. option_and_then pick (read_y bs))
 chain {X} {Y} GoodY textY read_y v Good text pick embed same picks embeds = record {
   sound = λ bs x e. cases bs x (read_y bs) refl e;
-  complete = λ x g. ap (λ l. bound pick (read_y l)) (same x) ∙ ap (bound pick) (v.complete (embed x) (embeds x g).0) ∙ (embeds x g).1;
+  complete = λ x g. ap (λ l. option_and_then pick (read_y l)) (same x) ∙ ap (option_and_then pick) (v.complete (embed x) (embeds x g).0) ∙ (embeds x g).1;
 }
   where
-    cases : (bs : List ℕ) (x : X) (o : Option Y) → read_y bs ≡ o → bound pick o ≡ Some x → Good x × (text x ≡ bs)
-    cases bs x None k h = no_none x h
+    cases : (bs : List ℕ) (x : X) (o : Option Y) → read_y bs ≡ o → option_and_then pick o ≡ Some x → Good x × (text x ≡ bs)
+    cases bs x None k h = absurd (none-some x h)
     cases bs x (Some y) k h =
         let w = v.sound bs y k in
         let p = picks y x w.0 h in
         (p.0, same x ∙ ap textY p.1 ∙ w.1)
-
--- a test that passed
-passed : {X : Type 0} (b : Bool) (x c : X) → cond b (Some x) None ≡ Some c → (b ≡ true) × (x ≡ c)
-passed true x c e = (refl, cc)
-passed false x c e = no_none c e
 
 -- facts
 
@@ -48,10 +43,10 @@ abbrev as_arity : ℕ → Said
 as_arity n = record { predicate = n; terms = [] }
 
 fact_picks : (body : List Said) (h : Option Said) (a : Said) → GoodSpoken (record { body = body; head = h }) → sole_of (record { body = body; head = h }) ≡ Some a → GoodAtom a × (as_fact a ≡ record { body = body; head = h })
-fact_picks body (Some x) a g e = no_none a e
-fact_picks [] None a g e = no_none a e
+fact_picks body (Some x) a g e = absurd (none-some a e)
+fact_picks [] None a g e = absurd (none-some a e)
 fact_picks (b ∷ []) None a g e = let p : b ≡ a = cc in (subst GoodAtom p g.body.0, ap as_fact (sym p))
-fact_picks (b ∷ x ∷ more) None a g e = no_none a e
+fact_picks (b ∷ x ∷ more) None a g e = absurd (none-some a e)
 
 pub fact_inverse : Inverse GoodAtom atom_text fact_of
 fact_inverse = chain GoodSpoken spoken_text spoken_of spoken_inverse GoodAtom atom_text sole_of as_fact
@@ -67,12 +62,12 @@ record Few (xs l : List Said) : Type 0 where
   few : length l ≤ 4
 
 few_found : (xs l : List Said) → few_of xs ≡ Some l → Few xs l
-few_found [] l e = no_none l e
+few_found [] l e = absurd (none-some l e)
 few_found (a ∷ []) l e = let p : a ∷ [] ≡ l = cc in subst (Few (a ∷ [])) p (record { same = refl; some = omega arith; few = omega arith })
 few_found (a ∷ b ∷ []) l e = let p : a ∷ b ∷ [] ≡ l = cc in subst (Few (a ∷ b ∷ [])) p (record { same = refl; some = omega arith; few = omega arith })
 few_found (a ∷ b ∷ c ∷ []) l e = let p : a ∷ b ∷ c ∷ [] ≡ l = cc in subst (Few (a ∷ b ∷ c ∷ [])) p (record { same = refl; some = omega arith; few = omega arith })
 few_found (a ∷ b ∷ c ∷ d ∷ []) l e = let p : a ∷ b ∷ c ∷ d ∷ [] ≡ l = cc in subst (Few (a ∷ b ∷ c ∷ d ∷ [])) p (record { same = refl; some = omega arith; few = omega arith })
-few_found (a ∷ b ∷ c ∷ d ∷ x ∷ more) l e = no_none l e
+few_found (a ∷ b ∷ c ∷ d ∷ x ∷ more) l e = absurd (none-some l e)
 
 few_kept : (l : List Said) → 0 < length l → length l ≤ 4 → few_of l ≡ Some l
 few_kept [] h k = absurd (omega arith)
@@ -83,7 +78,7 @@ few_kept (a ∷ b ∷ c ∷ d ∷ []) h k = refl
 few_kept (a ∷ b ∷ c ∷ d ∷ x ∷ more) h k = absurd (omega arith)
 
 list_picks : (body : List Said) (h : Option Said) (l : List Said) → GoodSpoken (record { body = body; head = h }) → plain_of (record { body = body; head = h }) ≡ Some l → GoodList l × (as_list l ≡ record { body = body; head = h })
-list_picks body (Some x) l g e = no_none l e
+list_picks body (Some x) l g e = absurd (none-some l e)
 list_picks body None l g e =
     let p = few_found body l e in
     (record { some = p.some; few = p.few; atoms = subst (AllByRecursion GoodAtom) p.same g.body }, ap as_list (sym p.same))
@@ -95,14 +90,14 @@ list_inverse = chain GoodSpoken spoken_text spoken_of spoken_inverse GoodList li
     (λ l g. (record { some = g.some; body = g.atoms; head = tt }, few_kept l g.some g.few))
 
 rule_some : (body : List Said) (x : Said) (r : Ruled) → AllByRecursion GoodAtom body → GoodAtom x → (o : Option (List Said)) → few_of body ≡ o → option_map (λ l. record { body = l; head = x }) o ≡ Some r → GoodRule r × (as_rule r ≡ record { body = body; head = Some x })
-rule_some body x r g h None k e = no_none r e
+rule_some body x r g h None k e = absurd (none-some r e)
 rule_some body x r g h (Some l) k e =
     let p = few_found body l k in
     let q : record { body = l; head = x } ≡ r = cc in
     (subst GoodRule q (record { body = record { some = p.some; few = p.few; atoms = subst (AllByRecursion GoodAtom) p.same g }; head = h }), ap as_rule (sym q) ∙ ap (λ l. record { body = l; head = Some x }) (sym p.same))
 
 rule_picks : (body : List Said) (h : Option Said) (r : Ruled) → GoodSpoken (record { body = body; head = h }) → rule_from (record { body = body; head = h }) ≡ Some r → GoodRule r × (as_rule r ≡ record { body = body; head = h })
-rule_picks body None r g e = no_none r e
+rule_picks body None r g e = absurd (none-some r e)
 rule_picks body (Some x) r g e = rule_some body x r g.body g.head (few_of body) refl e
 
 pub rule_inverse : Inverse GoodRule rule_text rule_of
@@ -115,7 +110,7 @@ rule_inverse = chain GoodSpoken spoken_text spoken_of spoken_inverse GoodRule ru
 
 arity_picks : (p : ℕ) (ts : List RawTerm) (n : ℕ) → p < 10 ^ 7 → no_terms p ts ≡ Some n → SmallNumber n × (as_arity n ≡ record { predicate = p; terms = ts })
 arity_picks p [] n g e = let q : p ≡ n = cc in (subst SmallNumber q g, ap as_arity (sym q))
-arity_picks p (t ∷ ts) n g e = no_none n e
+arity_picks p (t ∷ ts) n g e = absurd (none-some n e)
 
 pub arity_inverse : Inverse SmallNumber decimal arity_of
 arity_inverse = chain GoodAtom atom_text fact_of fact_inverse SmallNumber decimal (λ a. no_terms a.predicate a.terms) as_arity
@@ -153,8 +148,8 @@ bare_step : (t : RawTerm) (acc : List ℕ) (ts : List RawTerm) (ns : List ℕ) �
 bare_step (raw.Constant n) acc ts ns rest e =
     let r = rest (acc ++ n ∷ []) ns e in
     record { more = n ∷ r.more; all = r.all ∙ append_assoc acc (n ∷ []) r.more; terms = ap (λ l. bare n ∷ l) r.terms }
-bare_step (raw.Null n) acc ts ns rest e = no_none ns e
-bare_step (raw.Variable n) acc ts ns rest e = no_none ns e
+bare_step (raw.Null n) acc ts ns rest e = absurd (none-some ns e)
+bare_step (raw.Variable n) acc ts ns rest e = absurd (none-some ns e)
 
 bare_written : (ts : List RawTerm) (acc ns : List ℕ) → barely acc ts ≡ Some ns → Bare acc ts ns
 bare_written [] acc ns e = record { more = []; all = (let p : acc ≡ ns = cc in sym p ∙ sym (append-nil acc)); terms = refl }
@@ -181,9 +176,9 @@ numbers_read n ns h hs l =
 -- a letter with numbers
 lettered : (l n : ℕ) (ns : List ℕ) → eqb l 65 ≡ false → eqb l 76 ≡ false → SmallNumber n → AllByRecursion SmallNumber ns → length ns ≤ 4 → asked_of (l ∷ 32 ∷ numbers_text (n ∷ ns)) ≡ numbered_of l (n ∷ ns)
 lettered l n ns na nl h hs k =
-    ap (bound (asked_with l)) (numbers_read n ns h hs k)
+    ap (option_and_then (asked_with l)) (numbers_read n ns h hs k)
     ∙ cond-false (eqb l 65) _ _ na ∙ cond-false (eqb l 76) _ _ nl
-    ∙ ap (bound (numbered_of l)) (bare_read ns (n ∷ []))
+    ∙ ap (option_and_then (numbered_of l)) (bare_read ns (n ∷ []))
 
 -- calls
 
@@ -191,8 +186,8 @@ call_complete : (k : Asked) → GoodAsked k → asked_of (asked_text k) ≡ Some
 call_complete (open_derivation q) g = lettered 79 q [] refl refl g tt (omega arith)
 call_complete (open_model q) g = lettered 77 q [] refl refl g tt (omega arith)
 call_complete (step r p) g = lettered 83 r (p ∷ []) refl refl g.0 (g.1, tt) (omega arith)
-call_complete (add a) g = ap (bound (asked_with 65)) (fact_inverse.complete a g)
-call_complete (lodge a) g = ap (bound (asked_with 76)) (fact_inverse.complete a g)
+call_complete (add a) g = ap (option_and_then (asked_with 65)) (fact_inverse.complete a g)
+call_complete (lodge a) g = ap (option_and_then (asked_with 76)) (fact_inverse.complete a g)
 call_complete (claim []) g = absurd (omega (arith, g.some))
 call_complete (claim (p ∷ ps)) g = lettered 67 p ps refl refl g.small.0 g.small.1 (omega (arith, g.few)) ∙ cond-true (leb (length (p ∷ ps)) 4) _ _ (le-leb _ _ g.few)
 call_complete (clash k []) g = absurd (omega (arith, g.1.some))
@@ -223,27 +218,27 @@ two_numbers (n ∷ m ∷ x ∷ ns) h = absurd (omega arith)
 -- one call of one number, by its constructor
 one_call : (ns : List ℕ) (K : ℕ → Asked) (k : Asked) (x : ℕ) → ((n : ℕ) → SmallNumber n → Written (K n) (x ∷ 32 ∷ numbers_text (n ∷ []))) → GoodNumbers ns → cond (eqb (length ns) 1) (Some (K (get_or ns 0 0))) None ≡ Some k → Written k (x ∷ 32 ∷ numbers_text ns)
 one_call ns K k x w g e =
-    let p = passed (eqb (length ns) 1) (K (get_or ns 0 0)) k e in
+    let p = cond_some (eqb (length ns) 1) (K (get_or ns 0 0)) k e in
     let q = one_number ns (eqb-true _ _ p.0) in
     let s : AllByRecursion SmallNumber (get_or ns 0 0 ∷ []) = subst (AllByRecursion SmallNumber) q g.small in
     subst (λ z. Written z (x ∷ 32 ∷ numbers_text ns)) p.1 (subst (λ z. Written (K (get_or ns 0 0)) (x ∷ 32 ∷ numbers_text z)) (sym q) (w (get_or ns 0 0) s.0))
 
 step_call : (ns : List ℕ) (k : Asked) → GoodNumbers ns → cond (eqb (length ns) 2) (Some (step (get_or ns 0 0) (get_or ns 1 0))) None ≡ Some k → Written k (83 ∷ 32 ∷ numbers_text ns)
 step_call ns k g e =
-    let p = passed (eqb (length ns) 2) (step (get_or ns 0 0) (get_or ns 1 0)) k e in
+    let p = cond_some (eqb (length ns) 2) (step (get_or ns 0 0) (get_or ns 1 0)) k e in
     let q = two_numbers ns (eqb-true _ _ p.0) in
     let s : AllByRecursion SmallNumber (get_or ns 0 0 ∷ get_or ns 1 0 ∷ []) = subst (AllByRecursion SmallNumber) q g.small in
     subst (λ z. Written z (83 ∷ 32 ∷ numbers_text ns)) p.1 ((s.0, s.1.0), ap (λ z. 83 ∷ 32 ∷ numbers_text z) (sym q))
 
 claim_call : (ns : List ℕ) (k : Asked) → GoodNumbers ns → cond (leb (length ns) 4) (Some (claim ns)) None ≡ Some k → Written k (67 ∷ 32 ∷ numbers_text ns)
 claim_call ns k g e =
-    let p = passed (leb (length ns) 4) (claim ns) k e in
+    let p = cond_some (leb (length ns) 4) (claim ns) k e in
     subst (λ z. Written z (67 ∷ 32 ∷ numbers_text ns)) p.1 (record { some = g.some; few = leb-true _ _ p.0; small = g.small }, refl)
 
 clash_call : (ns : List ℕ) (k : Asked) → GoodNumbers ns → cond (leb 2 (length ns) && leb (length ns) 5) (Some (clash (get_or ns 0 0) (drop 1 ns))) None ≡ Some k → Written k (88 ∷ 32 ∷ numbers_text ns)
 clash_call [] k g e = absurd (omega (arith, g.some))
 clash_call (n ∷ ns) k g e =
-    let p = passed (leb 2 (length (n ∷ ns)) && leb (length (n ∷ ns)) 5) (clash n ns) k e in
+    let p = cond_some (leb 2 (length (n ∷ ns)) && leb (length (n ∷ ns)) 5) (clash n ns) k e in
     let q = and_parts (leb 2 (length (n ∷ ns))) (leb (length (n ∷ ns)) 5) p.0 in
     subst (λ z. Written z (88 ∷ 32 ∷ numbers_text (n ∷ ns))) p.1 ((g.small.0, record { some = omega (arith, leb-true 2 (length (n ∷ ns)) q.0); few = omega (arith, g.few); small = g.small.1 }), refl)
 
@@ -253,7 +248,7 @@ numbered_written l ns k g =
     (case l 77 _ _ k (32 ∷ numbers_text ns) (one_call ns open_model k 77 (λ n h. (h, refl)) g)
     (case l 83 _ _ k (32 ∷ numbers_text ns) (step_call ns k g)
     (case l 67 _ _ k (32 ∷ numbers_text ns) (claim_call ns k g)
-    (case l 88 _ _ k (32 ∷ numbers_text ns) (clash_call ns k g) (λ e. no_none k e)))))
+    (case l 88 _ _ k (32 ∷ numbers_text ns) (clash_call ns k g) (λ e. absurd (none-some k e))))))
 
 with_written : (l : ℕ) (a : Said) (k : Asked) → GoodAtom a → asked_with l a ≡ Some k → Written k (l ∷ 32 ∷ atom_text a)
 with_written l a k g =
@@ -261,21 +256,21 @@ with_written l a k g =
     (case l 76 _ _ k (32 ∷ atom_text a) (λ e. (let p : lodge a ≡ k = cc in subst (λ z. Written z (76 ∷ 32 ∷ atom_text a)) p (g, refl)))
     (numbered (numbers_of a) refl))
   where
-    numbered : (o : Option (List ℕ)) → numbers_of a ≡ o → bound (numbered_of l) o ≡ Some k → Written k (l ∷ 32 ∷ atom_text a)
-    numbered None q e = no_none k e
+    numbered : (o : Option (List ℕ)) → numbers_of a ≡ o → option_and_then (numbered_of l) o ≡ Some k → Written k (l ∷ 32 ∷ atom_text a)
+    numbered None q e = absurd (none-some k e)
     numbered (Some ns) q e = let w = numbers_written a ns g q in subst (λ z. Written k (l ∷ 32 ∷ z)) w.1 (numbered_written l ns k w.0 e)
 
 call_sound : (bs : List ℕ) (k : Asked) → asked_of bs ≡ Some k → Written k bs
-call_sound [] k e = no_none k e
+call_sound [] k e = absurd (none-some k e)
 call_sound (l ∷ []) k e =
     case l 82 _ _ k [] (λ h. (let p : refute ≡ k = cc in subst (λ z. Written z (82 ∷ [])) p (tt, refl)))
-    (case l 75 _ _ k [] (λ h. (let p : strike ≡ k = cc in subst (λ z. Written z (75 ∷ [])) p (tt, refl))) (λ h. no_none k h)) e
+    (case l 75 _ _ k [] (λ h. (let p : strike ≡ k = cc in subst (λ z. Written z (75 ∷ [])) p (tt, refl))) (λ h. absurd (none-some k h))) e
 call_sound (l ∷ s ∷ rest) k e =
-    cond_both (eqb s 32) (bound (asked_with l) (fact_of rest)) None (λ z. z ≡ Some k → Written k (l ∷ s ∷ rest))
-    (λ t h. subst (λ y. Written k (l ∷ y ∷ rest)) (sym (eqb-true s 32 t)) (found (fact_of rest) refl h)) (λ _ h. no_none k h) e
+    cond_both (eqb s 32) (option_and_then (asked_with l) (fact_of rest)) None (λ z. z ≡ Some k → Written k (l ∷ s ∷ rest))
+    (λ t h. subst (λ y. Written k (l ∷ y ∷ rest)) (sym (eqb-true s 32 t)) (found (fact_of rest) refl h)) (λ _ h. absurd (none-some k h)) e
   where
-    found : (o : Option Said) → fact_of rest ≡ o → bound (asked_with l) o ≡ Some k → Written k (l ∷ 32 ∷ rest)
-    found None q h = no_none k h
+    found : (o : Option Said) → fact_of rest ≡ o → option_and_then (asked_with l) o ≡ Some k → Written k (l ∷ 32 ∷ rest)
+    found None q h = absurd (none-some k h)
     found (Some a) q h = let w = fact_inverse.sound rest a q in subst (λ z. Written k (l ∷ 32 ∷ z)) w.1 (with_written l a k w.0 h)
 
 pub call_inverse : Inverse GoodAsked asked_text asked_of

@@ -1,11 +1,11 @@
 -- The kinds of lines: how each is written.
-use Rattle.std.specs.Prelude.{ℕ, ◌^◌, ◌<◌, ◌≤◌, cond, ◌&&◌, List, [], ◌∷◌, ◌++◌, length, drop, Some, None, decimal, Option, ◌==◌, nat_le, slice_index}
+use Rattle.std.specs.Prelude.{ℕ, ◌^◌, ◌<◌, ◌≤◌, cond, ◌&&◌, List, [], ◌∷◌, ◌++◌, length, drop, Some, None, decimal, Option, option_and_then, ◌==◌, nat_le, slice_index}
 use Rattle.std.specs.List.{flat_map, AllByRecursion}
 use Rattle.std.specs.Option.{option_map}
 use Rattle.reading.specs.declared.raw.RawTerm.{RawTerm}
 use Rattle.reading.specs.declared.raw.RawTerm.TheVariants as raw
 use Rattle.lines.specs.Atoms.{Said, atom_text, GoodAtom}
-use Rattle.lines.specs.Sentences.{Spoken, list_text, bound, spoken_of}
+use Rattle.lines.specs.Sentences.{Spoken, list_text, spoken_of}
 
 -- a rule: body and head, parted by a semicolon
 pub record Ruled : Type 0 where
@@ -128,25 +128,25 @@ numbered_of l ns =
 -- the reading of each kind
 
 abbrev pub fact_of : List ℕ → Option Said
-fact_of line = bound sole_of (spoken_of line)
+fact_of line = option_and_then sole_of (spoken_of line)
 
 abbrev pub list_of : List ℕ → Option (List Said)
-list_of line = bound plain_of (spoken_of line)
+list_of line = option_and_then plain_of (spoken_of line)
 
 abbrev pub rule_of : List ℕ → Option Ruled
-rule_of line = bound rule_from (spoken_of line)
+rule_of line = option_and_then rule_from (spoken_of line)
 
 abbrev pub no_terms : ℕ → List RawTerm → Option ℕ
 no_terms n [] = Some n
 no_terms n (t ∷ ts) = None
 
 abbrev pub arity_of : List ℕ → Option ℕ
-arity_of line = bound (λ a. no_terms a.predicate a.terms) (fact_of line)
+arity_of line = option_and_then (λ a. no_terms a.predicate a.terms) (fact_of line)
 
 abbrev pub asked_with : ℕ → Said → Option Asked
-asked_with l a = cond (l == 65) (Some (add a)) (cond (l == 76) (Some (lodge a)) (bound (numbered_of l) (numbers_of a)))
+asked_with l a = cond (l == 65) (Some (add a)) (cond (l == 76) (Some (lodge a)) (option_and_then (numbered_of l) (numbers_of a)))
 
 abbrev pub asked_of : List ℕ → Option Asked
 asked_of [] = None
 asked_of (l ∷ []) = bare_of l
-asked_of (l ∷ s ∷ rest) = cond (s == 32) (bound (asked_with l) (fact_of rest)) None
+asked_of (l ∷ s ∷ rest) = cond (s == 32) (option_and_then (asked_with l) (fact_of rest)) None

@@ -1,23 +1,18 @@
 -- What is read from a line, and how it is written.
-use Rattle.std.specs.Prelude.{ℕ, ◌≤◌, List, map, take, Some, None, Option}
+use Rattle.std.specs.Prelude.{ℕ, ◌≤◌, List, map}
 use Rattle.std.specs.List.{AllByRecursion}
 use Rattle.reading.specs.declared.raw.RawAtom.{RawAtom}
 use Rattle.calls.specs.Named.{named}
 use Rattle.lines.specs.Atoms.{Said, told, atom_text, GoodAtom}
 use Rattle.lines.specs.Sentences.{list_text}
 use Rattle.kinds.specs.Kinds.{Ruled, rule_text, GoodList, GoodRule, Asked, open_derivation, open_model, step, add, lodge, claim, clash, refute, strike, asked_text, GoodAsked}
-use Rattle.kinds.specs.declared.list.AtomList.{AtomList}
 use Rattle.kinds.specs.declared.request.RuleLine.{RuleLine}
 use Rattle.kinds.specs.declared.request.Request.{Request}
 use Rattle.kinds.specs.declared.request.Request.TheVariants.{OpenDerivation, OpenModel, Step, Add, Lodge, Claim, Clash, Refute, Strike}
 
-abbrev pub IfSome : {X : Type 0} → (X → Type 0) → Option X → Type 0
-IfSome P (Some x) = P x
-IfSome P None = Unit {0}
-
 -- an atom with all its terms kept
 abbrev pub Whole : RawAtom → Type 0
-Whole a = a.count ≤ 4
+Whole a = a.terms.count ≤ 4
 
 -- facts
 
@@ -29,19 +24,16 @@ GoodFact a = GoodAtom (told a) × Whole a
 
 -- lists of atoms
 
-abbrev pub held : AtomList → List RawAtom
-held l = take l.count l.atoms
+abbrev pub spelled : List RawAtom → List Said
+spelled l = map told l
 
-abbrev pub spelled : AtomList → List Said
-spelled l = map told (held l)
+abbrev pub WholeList : List RawAtom → Type 0
+WholeList l = AllByRecursion Whole l
 
-abbrev pub WholeList : AtomList → Type 0
-WholeList l = AllByRecursion Whole (held l)
-
-abbrev pub atoms_text : AtomList → List ℕ
+abbrev pub atoms_text : List RawAtom → List ℕ
 atoms_text l = list_text (spelled l)
 
-abbrev pub GoodAtoms : AtomList → Type 0
+abbrev pub GoodAtoms : List RawAtom → Type 0
 GoodAtoms l = GoodList (spelled l) × WholeList l
 
 -- rules

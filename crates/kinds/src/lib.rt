@@ -2,6 +2,5 @@
 #![tactic(auto)]
 
 pub mod line;
-pub mod list;
 mod parts;
 pub mod request;

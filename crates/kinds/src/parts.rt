@@ -1,55 +1,42 @@
 //! The parts that the kinds of lines are made of.
 ghost use Rattle.kinds.specs.Kinds.{sole_of, few_of, plain_of, rule_from, bare_of, numbers_of, numbered_of, asked_with};
-ghost use Rattle.kinds.specs.Lines.{IfSome, Whole, spelled, WholeList, ruled, WholeRule, asked, WholeRequest};
-ghost use Rattle.lines.specs.Atoms.{told, said};
+ghost use Rattle.kinds.specs.Lines.{spelled, WholeList, ruled, WholeRule, asked, WholeRequest};
 ghost use Rattle.lines.specs.Sentences.{sentence};
-ghost use Rattle.std.specs.Prelude.{◌≡◌, IfOk, vec_items};
+ghost use Rattle.std.specs.Prelude.{◌≡◌, IfOk, IfSome, option_and_then, vec_items};
 ghost use Rattle.std.specs.Option.{option_map};
+ghost use Rattle.words.specs.Reads.{IfRead};
 
-use crate::list::AtomList;
 use crate::request::{Request, RuleLine};
 use calls::places::Places;
 use lines::atom::WrittenAtom;
 use lines::sentence::Sentence;
-use reading::raw::RawTerm;
-use std::alloc::{AllocError, Global};
+use reading::raw::{RawAtom, RawTerm};
+use short_rows::row::Row;
+use std::alloc::Global;
+use words::error::ReadError;
 
 /// The one atom of the sentence.
 pub(crate) fn sole(s: Sentence) -> Option<WrittenAtom>
-    ensures { option_map said result ≡ sole_of (sentence s) }
+    ensures { result ≡ sole_of (sentence s) }
 {
-    match s.head {
-        Some(_) => None,
-        None => match s.body.as_slice() {
-            [atom] => Some(*atom),
-            _ => None,
-        },
+    match (s.head, s.body.as_slice()) {
+        (None, [atom]) => Some(*atom),
+        _ => None,
     }
 }
 
 /// The atoms before the head, one to four.
-fn body_of(s: &Sentence) -> Option<AtomList>
+fn body_of(s: &Sentence) -> Option<Row<RawAtom>>
     ensures same { option_map spelled result ≡ few_of (sentence s.now).body }
-    ensures whole { IfSome WholeList result }
+    ensures whole { IfSome result WholeList }
 {
-    AtomList::new(s.body.as_slice())
-}
-
-fn rule_line(body: AtomList, head: WrittenAtom) -> RuleLine
-    ensures body { result.body ≡ body }
-    ensures head { told result.head ≡ said head }
-    ensures whole { Whole result.head }
-{
-    RuleLine {
-        body,
-        head: head.raw(),
-    }
+    Some(Row::from_slice(s.body.as_slice())?.map(RawAtom::from))
 }
 
 /// One to four atoms, and no head.
-pub(crate) fn plain(s: Sentence) -> Option<AtomList>
+pub(crate) fn plain(s: Sentence) -> Option<Row<RawAtom>>
     ensures same { option_map spelled result ≡ plain_of (sentence s) }
-    ensures whole { IfSome WholeList result }
+    ensures whole { IfSome result WholeList }
 {
     match s.head {
         Some(_) => None,
@@ -60,21 +47,19 @@ pub(crate) fn plain(s: Sentence) -> Option<AtomList>
 /// One to four atoms, and a head.
 pub(crate) fn rule_of(s: Sentence) -> Option<RuleLine>
     ensures same { option_map ruled result ≡ rule_from (sentence s) }
-    ensures whole { IfSome WholeRule result }
+    ensures whole { IfSome result WholeRule }
 {
-    match s.head {
-        None => None,
-        Some(head) => match body_of(&s) {
-            Some(body) => Some(rule_line(body, head)),
-            None => None,
-        },
-    }
+    let body = body_of(&s)?;
+    Some(RuleLine {
+        body,
+        head: s.head?.into(),
+    })
 }
 
 /// A request that is a letter alone.
 pub(crate) fn bare_request(letter: char) -> Option<Request>
     ensures same { option_map asked result ≡ bare_of letter }
-    ensures whole { IfSome WholeRequest result }
+    ensures whole { IfSome result WholeRequest }
 {
     match letter {
         'R' => Some(Request::Refute),
@@ -84,39 +69,50 @@ pub(crate) fn bare_request(letter: char) -> Option<Request>
 }
 
 /// The numbers of an atom whose words are all bare.
-fn numbers(heap: Global, atom: &WrittenAtom) -> Result<Option<Vec<usize>>, AllocError>
-    ensures { IfOk result (λ o. option_map vec_items o ≡ numbers_of (said atom.now)) }
+fn numbers(heap: Global, atom: &WrittenAtom) -> Result<Vec<usize>, ReadError>
+    ensures { IfRead result (λ o. option_map vec_items o ≡ numbers_of atom.now) }
 {
     let mut out = Vec::new(heap);
     out.push(atom.predicate() as usize)?;
     for term in atom.terms() {
-        match *term {
-            RawTerm::Constant(number) => out.push(number as usize)?,
-            _ => return Ok(None),
-        }
+        let RawTerm::Constant(number) = *term else {
+            return Err(ReadError::Broken);
+        };
+        out.push(number as usize)?;
     }
-    Ok(Some(out))
+    Ok(out)
 }
 
 /// A request that is a letter and numbers.
 fn numbered_request(letter: char, numbers: &[usize]) -> Option<Request>
     ensures same { option_map asked result ≡ numbered_of letter numbers.now }
-    ensures whole { IfSome WholeRequest result }
+    ensures whole { IfSome result WholeRequest }
 {
-    match letter {
-        'O' if numbers.len() == 1 => Some(Request::OpenDerivation(numbers[0])),
-        'M' if numbers.len() == 1 => Some(Request::OpenModel(numbers[0])),
-        'S' if numbers.len() == 2 => Some(Request::Step {
-            rule: numbers[0],
-            place: numbers[1],
+    match (letter, numbers) {
+        ('O', [query]) => Some(Request::OpenDerivation(*query)),
+        ('M', [query]) => Some(Request::OpenModel(*query)),
+        ('S', [rule, place]) => Some(Request::Step {
+            rule: *rule,
+            place: *place,
         }),
-        'C' if numbers.len() <= 4 => Some(Request::Claim(Places::new(numbers))),
-        'X' if numbers.len() >= 2 && numbers.len() <= 5 => Some(Request::Clash {
-            constraint: numbers[0],
-            places: Places::new(&numbers[1..]),
-        }),
+        ('C', places) if places.len() <= 4 => Some(Request::Claim(Places::new(places))),
+        ('X', [constraint, places @ ..]) if !places.is_empty() && places.len() <= 4 => {
+            Some(Request::Clash {
+                constraint: *constraint,
+                places: Places::new(places),
+            })
+        }
         _ => None,
     }
+}
+
+/// A request that is a letter and the numbers of an atom.
+fn request_of_numbers(heap: Global, letter: char, atom: &WrittenAtom) -> Result<Request, ReadError>
+    ensures same { IfRead result (λ o. option_map asked o ≡ option_and_then (numbered_of letter) (numbers_of atom.now)) }
+    ensures whole { IfOk result WholeRequest }
+{
+    let figures = numbers(heap, atom)?;
+    numbered_request(letter, figures.as_slice()).ok_or(ReadError::Broken)
 }
 
 /// A request that is a letter and an atom or numbers.
@@ -124,16 +120,13 @@ pub(crate) fn request_with(
     heap: Global,
     letter: char,
     atom: WrittenAtom,
-) -> Result<Option<Request>, AllocError>
-    ensures same { IfOk result (λ o. option_map asked o ≡ asked_with letter (said atom)) }
-    ensures whole { IfOk result (λ o. IfSome WholeRequest o) }
+) -> Result<Request, ReadError>
+    ensures same { IfRead result (λ o. option_map asked o ≡ asked_with letter atom) }
+    ensures whole { IfOk result WholeRequest }
 {
     match letter {
-        'A' => Ok(Some(Request::Add(atom.raw()))),
-        'L' => Ok(Some(Request::Lodge(atom.raw()))),
-        _ => match numbers(heap, &atom)? {
-            Some(figures) => Ok(numbered_request(letter, figures.as_slice())),
-            None => Ok(None),
-        },
+        'A' => Ok(Request::Add(atom.into())),
+        'L' => Ok(Request::Lodge(atom.into())),
+        _ => request_of_numbers(heap, letter, &atom),
     }
 }

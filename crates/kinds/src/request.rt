@@ -1,12 +1,12 @@
 //! Rules and requests as lines write them.
-use crate::list::AtomList;
 use calls::places::Places;
 use reading::raw::RawAtom;
+use short_rows::row::Row;
 
 /// A rule.
-#[derive(Clone, Copy)]
+#[derive(Clone, Copy, Debug)]
 pub struct RuleLine {
-    pub body: AtomList,
+    pub body: Row<RawAtom>,
     pub head: RawAtom,
 }
 

@@ -1,9 +1,10 @@
 -- Gathering is the inverse of writing.
-use Rattle.std.proofs.Common.{◌≡◌, ℕ, suc, ◌+◌, ◌<◌, ◌≤◌, Bool, true, false, ltb, List, [], ◌∷◌, ◌++◌, length, Some, None, Option, sym, refl, ap, ◌∙◌, subst, append_assoc, append-nil, arith}
+use Rattle.std.proofs.Common.{◌≡◌, ℕ, suc, ◌+◌, ◌<◌, ◌≤◌, ltb, List, [], ◌∷◌, ◌++◌, length, Some, None, Option, option_and_then, sym, refl, ap, ◌∙◌, subst, append_assoc, append-nil, arith}
+use Rattle.std.proofs.lemmas.Option.{none-some}
 use Rattle.std.specs.List.{flat_map, AllByRecursion}
 use Rattle.std.proofs.ByRecursion.{All-append, All-push, All-weaker}
 use Rattle.std.proofs.lemmas.List.{length_push, flat_map_more, append_cancel_right}
-use Rattle.std.proofs.lemmas.Bool.{cond-true, cond_both, lt-ltb, ltb-true, true≢false}
+use Rattle.std.proofs.lemmas.Bool.{cond-true, cond_both, lt-ltb, ltb-true}
 use Rattle.reading.specs.declared.raw.RawTerm.{RawTerm}
 use Rattle.reading.specs.declared.raw.RawTerm.TheVariants as raw
 use Rattle.words.specs.declared.word.Mark.{Mark}
@@ -11,10 +12,11 @@ use Rattle.words.specs.declared.word.Mark.TheVariants.{Space, Comma, Semicolon, 
 use Rattle.words.specs.declared.word.Token.{Token}
 use Rattle.words.specs.Words.{term_text, mark_byte, tokens_text, Small, tokens_of}
 use Rattle.words.proofs.Inverse.{Inverse}
-use Rattle.words.proofs.Scans.{tokens_append, no_none, tokens_written, tokens_read}
+use Rattle.words.proofs.Scans.{tokens_append, tokens_written, tokens_read}
+use Rattle.lines.specs.declared.part.Part.{Part}
+use Rattle.lines.specs.declared.part.Part.TheVariants.{Body, Head}
 use Rattle.lines.specs.Atoms.{Said, atom_text, SmallTerm, GoodAtom, begins, grown, opens, takes}
-use Rattle.lines.specs.Sentences.{Spoken, list_text, spoken_text, GoodHead, GoodSpoken, by_option, whole, gathers, gathered, bound, spoken_of}
-use Rattle.lines.proofs.Gathers.{on_mark}
+use Rattle.lines.specs.Sentences.{Spoken, list_text, spoken_text, GoodHead, GoodSpoken, by_mark, in_body, whole, gathers, gathered, spoken_of}
 
 -- the words of each part, with the mark after the last
 
@@ -69,28 +71,38 @@ spoken_text_lem a more (Some h) =
 
 -- what is written is gathered
 
+-- what the mark after the atom a does
+abbrev on_mark : List Said → Part → Said → List Token → Mark → Option Spoken
+on_mark body part a ts m =
+    by_mark
+    (gathers body part (Some a) ts)
+    (in_body part (gathers (body ++ a ∷ []) Body None ts))
+    (in_body part (gathers (body ++ a ∷ []) Head None ts))
+    (whole body part a ts)
+    m
+
 abbrev Few : Said → Type 0
 Few a = length a.terms ≤ 4
 
-words_read : (w : RawTerm) (ws : List RawTerm) (m : Mark) (rest : List Token) (body : List Said) (past : Bool) (a : Said) → length a.terms + suc (length ws) ≤ 4 → gathers body past (Some a) (run w ws m ++ rest) ≡ on_mark body past (record { predicate = a.predicate; terms = a.terms ++ w ∷ ws }) rest m
-words_read w [] m rest body past a h = ap (by_option None (λ x. on_mark body past x rest m)) (cond-true (ltb (length a.terms) 4) (Some (grown a w)) None (lt-ltb _ _ (omega arith)))
-words_read w (v ∷ vs) m rest body past a h =
-    ap (by_option None (λ x. on_mark body past x (run v vs m ++ rest) Space)) (cond-true (ltb (length a.terms) 4) (Some (grown a w)) None (lt-ltb _ _ (omega arith)))
-    ∙ words_read v vs m rest body past (grown a w) (omega (arith, length_push a.terms w))
-    ∙ ap (λ ts. on_mark body past (record { predicate = a.predicate; terms = ts }) rest m) (append_assoc a.terms (w ∷ []) (v ∷ vs))
+words_read : (w : RawTerm) (ws : List RawTerm) (m : Mark) (rest : List Token) (body : List Said) (part : Part) (a : Said) → length a.terms + suc (length ws) ≤ 4 → gathers body part (Some a) (run w ws m ++ rest) ≡ on_mark body part (record { predicate = a.predicate; terms = a.terms ++ w ∷ ws }) rest m
+words_read w [] m rest body part a h = ap (option_and_then (λ x. on_mark body part x rest m)) (cond-true (ltb (length a.terms) 4) (Some (grown a w)) None (lt-ltb _ _ (omega arith)))
+words_read w (v ∷ vs) m rest body part a h =
+    ap (option_and_then (λ x. on_mark body part x (run v vs m ++ rest) Space)) (cond-true (ltb (length a.terms) 4) (Some (grown a w)) None (lt-ltb _ _ (omega arith)))
+    ∙ words_read v vs m rest body part (grown a w) (omega (arith, length_push a.terms w))
+    ∙ ap (λ ts. on_mark body part (record { predicate = a.predicate; terms = ts }) rest m) (append_assoc a.terms (w ∷ []) (v ∷ vs))
 
-atom_read' : (p : ℕ) (ts : List RawTerm) (m : Mark) (rest : List Token) (body : List Said) (past : Bool) → length ts ≤ 4 → gathers body past None (run (bare p) ts m ++ rest) ≡ on_mark body past (record { predicate = p; terms = ts }) rest m
-atom_read' p [] m rest body past h = refl
-atom_read' p (t ∷ ts) m rest body past h = words_read t ts m rest body past (begins p) (omega arith)
+atom_read' : (p : ℕ) (ts : List RawTerm) (m : Mark) (rest : List Token) (body : List Said) (part : Part) → length ts ≤ 4 → gathers body part None (run (bare p) ts m ++ rest) ≡ on_mark body part (record { predicate = p; terms = ts }) rest m
+atom_read' p [] m rest body part h = refl
+atom_read' p (t ∷ ts) m rest body part h = words_read t ts m rest body part (begins p) (omega arith)
 
-atom_read : (a : Said) (m : Mark) (rest : List Token) (body : List Said) (past : Bool) → Few a → gathers body past None (atom_tokens a m ++ rest) ≡ on_mark body past a rest m
-atom_read a m rest body past h = atom_read' a.predicate a.terms m rest body past h
+atom_read : (a : Said) (m : Mark) (rest : List Token) (body : List Said) (part : Part) → Few a → gathers body part None (atom_tokens a m ++ rest) ≡ on_mark body part a rest m
+atom_read a m rest body part h = atom_read' a.predicate a.terms m rest body part h
 
-list_read : (m : Mark) (rest : List Token) (K : List Said → Option Spoken) → ((body : List Said) (a : Said) → on_mark body false a rest m ≡ K (body ++ a ∷ [])) → (more : List Said) (a : Said) (body : List Said) → Few a → AllByRecursion Few more → gathers body false None (list_tokens a more m ++ rest) ≡ K (body ++ a ∷ more)
-list_read m rest K k [] a body h hs = atom_read a m rest body false h ∙ k body a
+list_read : (m : Mark) (rest : List Token) (K : List Said → Option Spoken) → ((body : List Said) (a : Said) → on_mark body Body a rest m ≡ K (body ++ a ∷ [])) → (more : List Said) (a : Said) (body : List Said) → Few a → AllByRecursion Few more → gathers body Body None (list_tokens a more m ++ rest) ≡ K (body ++ a ∷ more)
+list_read m rest K k [] a body h hs = atom_read a m rest body Body h ∙ k body a
 list_read m rest K k (b ∷ bs) a body h hs =
-    ap (gathers body false None) (append_assoc (atom_tokens a Comma) (list_tokens b bs m) rest)
-    ∙ atom_read a Comma (list_tokens b bs m ++ rest) body false h
+    ap (gathers body Body None) (append_assoc (atom_tokens a Comma) (list_tokens b bs m) rest)
+    ∙ atom_read a Comma (list_tokens b bs m ++ rest) body Body h
     ∙ list_read m rest K k bs b (body ++ a ∷ []) hs.0 hs.1
     ∙ ap K (append_assoc body (a ∷ []) (b ∷ bs))
 
@@ -101,16 +113,16 @@ FewHead (Some a) = Few a
 spoken_read : (a : Said) (more : List Said) (h : Option Said) → Few a → AllByRecursion Few more → FewHead h → gathered (closing (a ∷ more) h) ≡ Some (record { body = a ∷ more; head = h })
 spoken_read a more None f fs g = ap gathered (sym (append-nil (list_tokens a more End))) ∙ list_read End [] (λ l. Some (record { body = l; head = None })) (λ body b. refl) more a [] f fs
 spoken_read a more (Some h) f fs g =
-    list_read Semicolon (atom_tokens h End) (λ l. gathers l true None (atom_tokens h End)) (λ body b. refl) more a [] f fs
-    ∙ ap (gathers (a ∷ more) true None) (sym (append-nil (atom_tokens h End)))
-    ∙ atom_read h End [] (a ∷ more) true g
+    list_read Semicolon (atom_tokens h End) (λ l. gathers l Head None (atom_tokens h End)) (λ body b. refl) more a [] f fs
+    ∙ ap (gathers (a ∷ more) Head None) (sym (append-nil (atom_tokens h End)))
+    ∙ atom_read h End [] (a ∷ more) Head g
 
 -- what is gathered was written
 
 -- the words of what was gathered so far
-abbrev prefix : List Said → Bool → List Token
-prefix body false = flat_map (λ a. atom_tokens a Comma) body
-prefix body true = list_of body Semicolon
+abbrev prefix : List Said → Part → List Token
+prefix body Body = flat_map (λ a. atom_tokens a Comma) body
+prefix body Head = list_of body Semicolon
 
 abbrev begun_tokens : Option Said → List Token
 begun_tokens None = []
@@ -132,18 +144,23 @@ record Taken (begun : Option Said) (w : RawTerm) (a : Said) : Type 0 where
 
 taken_first : (w : RawTerm) (a : Said) → opens w ≡ Some a → Taken None w a
 taken_first (raw.Constant n) a e = let p : begins n ≡ a = cc in subst (Taken None (raw.Constant n)) p (record { few = omega arith; words = λ m. refl })
-taken_first (raw.Variable n) a e = no_none a e
-taken_first (raw.Null n) a e = no_none a e
+taken_first (raw.Variable n) a e = absurd (none-some a e)
+taken_first (raw.Null n) a e = absurd (none-some a e)
 
 taken : (begun : Option Said) (w : RawTerm) (a : Said) → takes begun w ≡ Some a → Taken begun w a
 taken None w a e = taken_first w a e
 taken (Some b) w a e =
     cond_both (ltb (length b.terms) 4) (Some (grown b w)) None (λ o. o ≡ Some a → Taken (Some b) w a)
     (λ lt e'. (let p : grown b w ≡ a = cc in subst (Taken (Some b) w) p (record { few = omega (arith, length_push b.terms w, ltb-true _ _ lt); words = λ m. run_more (bare b.predicate) b.terms w m })))
-    (λ ge e'. no_none a e') e
+    (λ ge e'. absurd (none-some a e')) e
 
-record State (body : List Said) (past : Bool) : Type 0 where
-  some : past ≡ true → 0 < length body
+-- before the head stands an atom
+abbrev Begun : Part → List Said → Type 0
+Begun Body body = Unit {0}
+Begun Head body = 0 < length body
+
+record State (body : List Said) (part : Part) : Type 0 where
+  some : Begun part body
   few : AllByRecursion Few body
 
 record Spells (s : Spoken) (ts : List Token) : Type 0 where
@@ -156,7 +173,7 @@ push_some : (body : List Said) (a : Said) → 0 < length (body ++ a ∷ [])
 push_some body a = omega (arith, length_push body a)
 
 abbrev From : List Token → Type 0
-From ts = (body : List Said) (past : Bool) (begun : Option Said) (s : Spoken) → State body past → gathers body past begun ts ≡ Some s → Spells s (prefix body past ++ (begun_tokens begun ++ ts))
+From ts = (body : List Said) (part : Part) (begun : Option Said) (s : Spoken) → State body part → gathers body part begun ts ≡ Some s → Spells s (prefix body part ++ (begun_tokens begun ++ ts))
 
 -- the word t makes a of the atom that was begun
 onto : (pre : List Token) (begun : Option Said) (t : Token) (ts : List Token) (a : Said) → Taken begun t.term a → pre ++ (begun_tokens begun ++ t ∷ ts) ≡ (pre ++ atom_tokens a t.mark) ++ ts
@@ -164,39 +181,39 @@ onto pre begun t ts a k =
     ap (λ l. pre ++ l) (sym (append_assoc (begun_tokens begun) (t ∷ []) ts) ∙ ap (λ l. l ++ ts) (k.words t.mark))
     ∙ sym (append_assoc pre (atom_tokens a t.mark) ts)
 
-whole_written : (body : List Said) (past : Bool) (a : Said) (ts : List Token) (s : Spoken) → State body past → Few a → whole body past a ts ≡ Some s → Spells s ((prefix body past ++ atom_tokens a End) ++ ts)
-whole_written body true a [] s st f e =
+whole_written : (body : List Said) (part : Part) (a : Said) (ts : List Token) (s : Spoken) → State body part → Few a → whole body part a ts ≡ Some s → Spells s ((prefix body part ++ atom_tokens a End) ++ ts)
+whole_written body Head a [] s st f e =
     let p : record { body = body; head = Some a } ≡ s = cc in
-    subst (λ x. Spells x ((prefix body true ++ atom_tokens a End) ++ [])) p (record { some = st.some refl; few = st.few; head = f; tokens = sym (append-nil _) })
-whole_written body false a [] s st f e =
+    subst (λ x. Spells x ((prefix body Head ++ atom_tokens a End) ++ [])) p (record { some = st.some; few = st.few; head = f; tokens = sym (append-nil _) })
+whole_written body Body a [] s st f e =
     let p : record { body = body ++ a ∷ []; head = None } ≡ s = cc in
-    subst (λ x. Spells x ((prefix body false ++ atom_tokens a End) ++ [])) p (record { some = push_some body a; few = All-push Few body a st.few f; head = tt; tokens = list_more body a End ∙ sym (append-nil _) })
-whole_written body past a (t ∷ ts) s st f e = no_none s e
+    subst (λ x. Spells x ((prefix body Body ++ atom_tokens a End) ++ [])) p (record { some = push_some body a; few = All-push Few body a st.few f; head = tt; tokens = list_more body a End ∙ sym (append-nil _) })
+whole_written body part a (t ∷ ts) s st f e = absurd (none-some s e)
 
-mark_written : (ts : List Token) → From ts → (body : List Said) (past : Bool) (a : Said) (m : Mark) (s : Spoken) → State body past → Few a → on_mark body past a ts m ≡ Some s → Spells s ((prefix body past ++ atom_tokens a m) ++ ts)
-mark_written ts rest body past a Space s st f e = subst (Spells s) (sym (append_assoc (prefix body past) (atom_tokens a Space) ts)) (rest body past (Some a) s st e)
-mark_written ts rest body true a Comma s st f e = no_none s e
-mark_written ts rest body false a Comma s st f e =
-    let ih = rest (body ++ a ∷ []) false None s (record { some = λ x. absurd (true≢false (sym x)); few = All-push Few body a st.few f }) e in
+mark_written : (ts : List Token) → From ts → (body : List Said) (part : Part) (a : Said) (m : Mark) (s : Spoken) → State body part → Few a → on_mark body part a ts m ≡ Some s → Spells s ((prefix body part ++ atom_tokens a m) ++ ts)
+mark_written ts rest body part a Space s st f e = subst (Spells s) (sym (append_assoc (prefix body part) (atom_tokens a Space) ts)) (rest body part (Some a) s st e)
+mark_written ts rest body Head a Comma s st f e = absurd (none-some s e)
+mark_written ts rest body Body a Comma s st f e =
+    let ih = rest (body ++ a ∷ []) Body None s (record { some = tt; few = All-push Few body a st.few f }) e in
     subst (λ l. Spells s (l ++ ts)) (sym (flat_map_more (λ x. atom_tokens x Comma) [] body a)) ih
-mark_written ts rest body true a Semicolon s st f e = no_none s e
-mark_written ts rest body false a Semicolon s st f e =
-    let ih = rest (body ++ a ∷ []) true None s (record { some = λ _. push_some body a; few = All-push Few body a st.few f }) e in
+mark_written ts rest body Head a Semicolon s st f e = absurd (none-some s e)
+mark_written ts rest body Body a Semicolon s st f e =
+    let ih = rest (body ++ a ∷ []) Head None s (record { some = push_some body a; few = All-push Few body a st.few f }) e in
     subst (λ l. Spells s (l ++ ts)) (list_more body a Semicolon) ih
-mark_written ts rest body past a End s st f e = whole_written body past a ts s st f e
+mark_written ts rest body part a End s st f e = whole_written body part a ts s st f e
 
-word_written : (t : Token) (ts : List Token) → From ts → (body : List Said) (past : Bool) (begun : Option Said) (s : Spoken) → State body past → (o : Option Said) → takes begun t.term ≡ o → by_option None (λ a. on_mark body past a ts t.mark) o ≡ Some s → Spells s (prefix body past ++ (begun_tokens begun ++ t ∷ ts))
-word_written t ts rest body past begun s st None k h = no_none s h
-word_written t ts rest body past begun s st (Some a) k h =
+word_written : (t : Token) (ts : List Token) → From ts → (body : List Said) (part : Part) (begun : Option Said) (s : Spoken) → State body part → (o : Option Said) → takes begun t.term ≡ o → option_and_then (λ a. on_mark body part a ts t.mark) o ≡ Some s → Spells s (prefix body part ++ (begun_tokens begun ++ t ∷ ts))
+word_written t ts rest body part begun s st None k h = absurd (none-some s h)
+word_written t ts rest body part begun s st (Some a) k h =
     let g = taken begun t.term a k in
-    subst (Spells s) (sym (onto (prefix body past) begun t ts a g)) (mark_written ts rest body past a t.mark s st g.few h)
+    subst (Spells s) (sym (onto (prefix body part) begun t ts a g)) (mark_written ts rest body part a t.mark s st g.few h)
 
 gather_written : (ts : List Token) → From ts
-gather_written [] body past begun s st e = no_none s e
-gather_written (t ∷ ts) body past begun s st e = word_written t ts (gather_written ts) body past begun s st (takes begun t.term) refl e
+gather_written [] body part begun s st e = absurd (none-some s e)
+gather_written (t ∷ ts) body part begun s st e = word_written t ts (gather_written ts) body part begun s st (takes begun t.term) refl e
 
 gathered_written : (ts : List Token) (s : Spoken) → gathered ts ≡ Some s → Spells s ts
-gathered_written ts s e = gather_written ts [] false None s (record { some = λ x. absurd (true≢false (sym x)); few = tt }) e
+gathered_written ts s e = gather_written ts [] Body None s (record { some = tt; few = tt }) e
 
 -- small numbers in the words and in the atoms
 
@@ -232,7 +249,7 @@ few_from xs h = All-weaker GoodAtom Few (λ a g. g.few) xs h
 
 spoken_read_line : (line : List ℕ) (a : Said) (more : List Said) (h : Option Said) → GoodAtom a → AllByRecursion GoodAtom more → GoodHead h → spoken_text (record { body = a ∷ more; head = h }) ≡ line → spoken_of line ≡ Some (record { body = a ∷ more; head = h })
 spoken_read_line line a more h g gs gh e =
-    ap (bound gathered) (tokens_read line (closing (a ∷ more) h) (small h gh) (spoken_text_lem a more h ∙ ap (λ l. l ++ 10 ∷ []) e))
+    ap (option_and_then gathered) (tokens_read line (closing (a ∷ more) h) (small h gh) (spoken_text_lem a more h ∙ ap (λ l. l ++ 10 ∷ []) e))
     ∙ spoken_read a more h g.few (few_from more gs) (few_head h gh)
   where
     small : (h : Option Said) → GoodHead h → AllByRecursion Small (closing (a ∷ more) h)
@@ -265,8 +282,8 @@ written_line line (a ∷ more) h sp small e =
 spoken_sound : (line : List ℕ) (s : Spoken) → spoken_of line ≡ Some s → GoodSpoken s × (spoken_text s ≡ line)
 spoken_sound line s e = cases (tokens_of line) refl e
   where
-    cases : (o : Option (List Token)) → tokens_of line ≡ o → bound gathered o ≡ Some s → GoodSpoken s × (spoken_text s ≡ line)
-    cases None k h = no_none s h
+    cases : (o : Option (List Token)) → tokens_of line ≡ o → option_and_then gathered o ≡ Some s → GoodSpoken s × (spoken_text s ≡ line)
+    cases None k h = absurd (none-some s h)
     cases (Some ts) k h =
         let w = tokens_written line ts k in
         let sp = gathered_written ts s h in

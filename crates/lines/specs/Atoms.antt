@@ -1,12 +1,10 @@
 -- An atom as it is written.
-use Rattle.std.specs.Prelude.{ℕ, ◌^◌, ◌<◌, ◌≤◌, cond, List, [], ◌∷◌, ◌++◌, length, take, Some, None, decimal, Option, nat_lt}
+use Rattle.std.specs.Prelude.{ℕ, ◌^◌, ◌<◌, ◌≤◌, cond, List, [], ◌∷◌, ◌++◌, length, Some, None, decimal, Option, nat_lt}
 use Rattle.std.specs.List.{flat_map, AllByRecursion}
-use Rattle.short_rows.specs.Rows.{listed_or_none}
 use Rattle.reading.specs.declared.raw.RawAtom.{RawAtom}
 use Rattle.reading.specs.declared.raw.RawTerm.{RawTerm}
 use Rattle.reading.specs.declared.raw.RawTerm.TheVariants as raw
 use Rattle.words.specs.Words.{term_text, number_of}
-use Rattle.lines.specs.declared.atom.WrittenAtom.{WrittenAtom}
 
 -- a predicate number and terms
 pub record Said : Type 0 where
@@ -15,11 +13,7 @@ pub record Said : Type 0 where
 
 -- what a caller's atom says, where it has at most four terms
 abbrev pub told : RawAtom → Said
-told a = record { predicate = a.predicate; terms = listed_or_none a.first }
-
--- what an atom that is read says
-abbrev pub said : WrittenAtom → Said
-said a = record { predicate = a.predicate; terms = take a.count a.terms }
+told a = record { predicate = a.predicate; terms = a.terms.first }
 
 -- words are parted by one space
 abbrev pub atom_text : Said → List ℕ

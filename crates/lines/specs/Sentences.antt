@@ -1,13 +1,14 @@
 -- Atoms parted by commas, and after a semicolon perhaps one more.
-use Rattle.std.specs.Prelude.{ℕ, ◌<◌, Bool, true, false, cond, List, [], ◌∷◌, ◌++◌, map, length, Some, None, vec_items, Option}
+use Rattle.std.specs.Prelude.{ℕ, ◌<◌, List, [], ◌∷◌, ◌++◌, length, Some, None, vec_items, Option, option_and_then}
 use Rattle.std.specs.List.{flat_map, AllByRecursion}
-use Rattle.std.specs.Option.{option_map}
 use Rattle.words.specs.declared.word.Mark.{Mark}
 use Rattle.words.specs.declared.word.Mark.TheVariants.{Space, Comma, Semicolon, End}
 use Rattle.words.specs.declared.word.Token.{Token}
 use Rattle.words.specs.Words.{tokens_of}
+use Rattle.lines.specs.declared.part.Part.{Part}
+use Rattle.lines.specs.declared.part.Part.TheVariants.{Body, Head}
 use Rattle.lines.specs.declared.sentence.Sentence.{Sentence}
-use Rattle.lines.specs.Atoms.{Said, said, atom_text, GoodAtom, takes}
+use Rattle.lines.specs.Atoms.{Said, atom_text, GoodAtom, takes}
 
 -- the atoms before a semicolon, and the one after it
 pub record Spoken : Type 0 where
@@ -15,7 +16,7 @@ pub record Spoken : Type 0 where
   pub head : Option Said
 
 abbrev pub sentence : Sentence → Spoken
-sentence s = record { body = map said (vec_items s.body); head = option_map said s.head }
+sentence s = record { body = vec_items s.body; head = s.head }
 
 -- atoms are parted by one comma
 abbrev pub list_text : List Said → List ℕ
@@ -40,10 +41,6 @@ pub record GoodSpoken (s : Spoken) : Type 0 where
 
 -- how it is gathered from words
 
-abbrev pub by_option : {X R : Type 0} → R → (X → R) → Option X → R
-by_option n f None = n
-by_option n f (Some x) = f x
-
 abbrev pub by_mark : {R : Type 0} → R → R → R → R → Mark → R
 by_mark s c h e Space = s
 by_mark s c h e Comma = c
@@ -51,33 +48,35 @@ by_mark s c h e Semicolon = h
 by_mark s c h e End = e
 
 -- the sentence that the last atom ends
-abbrev pub closed : List Said → Bool → Said → Spoken
-closed body past a = cond past (record { body = body; head = Some a }) (record { body = body ++ a ∷ []; head = None })
+abbrev pub closed : List Said → Part → Said → Spoken
+closed body Body a = record { body = body ++ a ∷ []; head = None }
+closed body Head a = record { body = body; head = Some a }
 
-abbrev pub whole : List Said → Bool → Said → List Token → Option Spoken
-whole body past a [] = Some (closed body past a)
-whole body past a (t ∷ ts) = None
+abbrev pub whole : List Said → Part → Said → List Token → Option Spoken
+whole body part a [] = Some (closed body part a)
+whole body part a (t ∷ ts) = None
 
--- body: the atoms so far; past: a semicolon stood; begun: the atom that is begun
-abbrev pub gathers : List Said → Bool → Option Said → List Token → Option Spoken
-gathers body past begun [] = None
-gathers body past begun (t ∷ ts) =
-    by_option None (λ a.
+-- a comma or a semicolon stands only before the head
+abbrev pub in_body : {R : Type 0} → Part → Option R → Option R
+in_body Body o = o
+in_body Head o = None
+
+-- body: the atoms so far; part: the one that the next atom stands in; begun: the atom that is begun
+abbrev pub gathers : List Said → Part → Option Said → List Token → Option Spoken
+gathers body part begun [] = None
+gathers body part begun (t ∷ ts) =
+    option_and_then (λ a.
     by_mark
-    (gathers body past (Some a) ts)
-    (cond past None (gathers (body ++ a ∷ []) false None ts))
-    (cond past None (gathers (body ++ a ∷ []) true None ts))
-    (whole body past a ts)
+    (gathers body part (Some a) ts)
+    (in_body part (gathers (body ++ a ∷ []) Body None ts))
+    (in_body part (gathers (body ++ a ∷ []) Head None ts))
+    (whole body part a ts)
     t.mark)
     (takes begun t.term)
 
 abbrev pub gathered : List Token → Option Spoken
-gathered ts = gathers [] false None ts
-
-abbrev pub bound : {X Y : Type 0} → (X → Option Y) → Option X → Option Y
-bound f None = None
-bound f (Some x) = f x
+gathered ts = gathers [] Body None ts
 
 -- the sentence of a line
 abbrev pub spoken_of : List ℕ → Option Spoken
-spoken_of line = bound gathered (tokens_of line)
+spoken_of line = option_and_then gathered (tokens_of line)

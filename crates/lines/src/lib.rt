@@ -2,4 +2,5 @@
 #![tactic(auto)]
 
 pub mod atom;
+mod part;
 pub mod sentence;

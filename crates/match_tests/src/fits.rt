@@ -4,15 +4,14 @@ use fitting::binding::unbound;
 use fitting::fit::fit;
 use fitting::instance::bound_atom;
 use fitting::trial::head_fits;
-use short_rows::row::Row;
 use std::test::Fail;
 
 /// `2 v1 v1` fits `2 17 17`, and not `2 17 18`.
 #[test]
 fn one_variable_twice(rt: HostRuntime) -> Result<(), Fail> {
-    let twice = pattern(2, Row::Two(v(1), v(1)))?;
-    let same = atom(2, Row::Two(c(17), c(17)))?;
-    let other = atom(2, Row::Two(c(17), c(18)))?;
+    let twice = pattern(2, &[v(1), v(1)])?;
+    let same = atom(2, &[c(17), c(17)])?;
+    let other = atom(2, &[c(17), c(18)])?;
     assert!(rt; fit(unbound(), &twice, &same).is_some());
     assert!(rt; fit(unbound(), &twice, &other).is_none());
     Ok(())
@@ -21,44 +20,36 @@ fn one_variable_twice(rt: HostRuntime) -> Result<(), Fail> {
 /// Predicate, number of terms and constants have to agree.
 #[test]
 fn what_does_not_agree(rt: HostRuntime) -> Result<(), Fail> {
-    let given = pattern(2, Row::Two(c(17), v(8)))?;
-    assert!(rt; fit(unbound(), &given, &atom(2, Row::Two(c(17), c(5)))?).is_some());
-    assert!(rt; fit(unbound(), &given, &atom(3, Row::Two(c(17), c(5)))?).is_none());
-    assert!(rt; fit(unbound(), &given, &atom(2, Row::One(c(17)))?).is_none());
-    assert!(rt; fit(unbound(), &given, &atom(2, Row::Two(c(18), c(5)))?).is_none());
+    let given = pattern(2, &[c(17), v(8)])?;
+    assert!(rt; fit(unbound(), &given, &atom(2, &[c(17), c(5)])?).is_some());
+    assert!(rt; fit(unbound(), &given, &atom(3, &[c(17), c(5)])?).is_none());
+    assert!(rt; fit(unbound(), &given, &atom(2, &[c(17)])?).is_none());
+    assert!(rt; fit(unbound(), &given, &atom(2, &[c(18), c(5)])?).is_none());
     Ok(())
 }
 
 /// A fitted pattern, so bound, is the atom; a pattern with an unbound variable is none.
 #[test]
 fn bound_and_unbound(rt: HostRuntime) -> Result<(), Fail> {
-    let given = pattern(2, Row::Two(v(1), v(2)))?;
-    let there = atom(2, Row::Two(c(17), c(18)))?;
+    let given = pattern(2, &[v(1), v(2)])?;
+    let there = atom(2, &[c(17), c(18)])?;
     let binding = fit(unbound(), &given, &there).ok_or(Unfit)?;
     assert!(rt; bound_atom(binding, &given).ok_or(Unfit)? == there);
     assert!(rt;
-        bound_atom(binding, &pattern(2, Row::Two(v(2), v(1)))?).ok_or(Unfit)?
-            == atom(2, Row::Two(c(18), c(17)))?
+        bound_atom(binding, &pattern(2, &[v(2), v(1)])?).ok_or(Unfit)? == atom(2, &[c(18), c(17)])?
     );
-    assert!(rt; bound_atom(binding, &pattern(1, Row::One(v(3)))?).is_none());
+    assert!(rt; bound_atom(binding, &pattern(1, &[v(3)])?).is_none());
     Ok(())
 }
 
 /// A head that fits and one that does not both leave the existential variable unbound.
 #[test]
 fn head_tried(rt: HostRuntime) -> Result<(), Fail> {
-    let mut binding = fit(
-        unbound(),
-        &pattern(1, Row::One(v(1)))?,
-        &atom(1, Row::One(c(17)))?,
-    )
-    .ok_or(Unfit)?;
-    let head = pattern(2, Row::Two(v(1), v(2)))?;
-    assert!(rt; head_fits(&head, &atom(2, Row::Two(c(17), c(5)))?, &mut binding));
-    assert!(rt; !head_fits(&head, &atom(2, Row::Two(c(18), c(5)))?, &mut binding));
-    assert!(rt; bound_atom(binding, &pattern(1, Row::One(v(2)))?).is_none());
-    assert!(rt;
-        bound_atom(binding, &pattern(1, Row::One(v(1)))?).ok_or(Unfit)? == atom(1, Row::One(c(17)))?
-    );
+    let mut binding = fit(unbound(), &pattern(1, &[v(1)])?, &atom(1, &[c(17)])?).ok_or(Unfit)?;
+    let head = pattern(2, &[v(1), v(2)])?;
+    assert!(rt; head_fits(&head, &atom(2, &[c(17), c(5)])?, &mut binding));
+    assert!(rt; !head_fits(&head, &atom(2, &[c(18), c(5)])?, &mut binding));
+    assert!(rt; bound_atom(binding, &pattern(1, &[v(2)])?).is_none());
+    assert!(rt; bound_atom(binding, &pattern(1, &[v(1)])?).ok_or(Unfit)? == atom(1, &[c(17)])?);
     Ok(())
 }

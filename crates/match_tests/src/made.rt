@@ -1,7 +1,7 @@
 //! Patterns and ground atoms from raw terms.
 use atoms::atom::{Atom, GroundAtom, Pattern};
 use reading::raw::RawTerm;
-use reading::sort::read_row;
+use reading::sort::{Sort, read_row};
 use refusals::refusal::Refusal;
 use short_rows::row::Row;
 use terms::predicate::Predicate;
@@ -18,20 +18,19 @@ pub(crate) fn c(number: u32) -> RawTerm {
     RawTerm::Constant(number)
 }
 
-pub(crate) fn pattern(predicate: usize, row: Row<RawTerm>) -> Result<Pattern, Unfit> {
-    let predicate = Predicate::new(predicate).ok_or(Unfit)?;
-    match read_row::<terms::pattern_term::PatternTerm>(row) {
-        Ok(terms) => Ok(Atom { predicate, terms }),
-        Err(_) => Err(Unfit),
-    }
+pub(crate) fn pattern(predicate: usize, terms: &[RawTerm]) -> Result<Pattern, Unfit> {
+    read(predicate, terms)
 }
 
-pub(crate) fn atom(predicate: usize, row: Row<RawTerm>) -> Result<GroundAtom, Unfit> {
+pub(crate) fn atom(predicate: usize, terms: &[RawTerm]) -> Result<GroundAtom, Unfit> {
+    read(predicate, terms)
+}
+
+fn read<T: Sort>(predicate: usize, terms: &[RawTerm]) -> Result<Atom<T>, Unfit> {
     let predicate = Predicate::new(predicate).ok_or(Unfit)?;
-    match read_row::<terms::term::Term>(row) {
-        Ok(terms) => Ok(Atom { predicate, terms }),
-        Err(_) => Err(Unfit),
-    }
+    let row = Row::from_slice(terms).ok_or(Unfit)?;
+    let terms = read_row(row).map_err(|_| Unfit)?;
+    Ok(Atom { predicate, terms })
 }
 
 /// The number and the figures of a refusal.

@@ -1,11 +1,10 @@
 //! A filter that says of most atoms that they have not been met.
-ghost use Rattle.std.specs.Prelude.{◌≡◌, ◌<◌, true, false, map, length, slice_index_or, slice_set};
+ghost use Rattle.std.specs.Prelude.{All, ◌*◌, ◌≤◌, ◌≡◌, ◌<◌, true, false, map, length, slice_index_or, slice_set};
 ghost use Rattle.atoms.specs.Meaning.{atom_meant};
 ghost use Rattle.openings.specs.Filters.{weights, weighed, slot_of};
 ghost use Rattle.terms.specs.Meaning.{term_meant};
 
 use atoms::atom::GroundAtom;
-use short_rows::row::Row;
 use terms::term::Term;
 
 /// How many slots there are: a prime, so that few atoms of a regular catalogue share one.
@@ -22,18 +21,21 @@ fn number(term: Term) -> u64
     }
 }
 
+/// The weights of the terms, first to fourth.
+const WEIGHTS: [u64; 4] = [7_649, 63_191, 24_829, 41_221];
+
 /// The terms, each times its weight.
-fn weight(terms: &Row<Term>) -> u64
-    ensures value { result ≡ weighed weights (map term_meant terms.now) }
-    ensures bound { result < 1000000000000 }
+fn weigh(weights: &[u64], terms: &[Term]) -> u64
+    requires few { length terms.now ≤ 4 }
+    requires light { All (λ w. w < 100000) weights.now }
+    ensures value { result ≡ weighed weights.now (map term_meant terms.now) }
+    ensures bound { result ≤ length terms.now * 200000000000 }
 {
-    match *terms {
-        Row::One(a) => number(a) * 7_649,
-        Row::Two(a, b) => number(a) * 7_649 + number(b) * 63_191,
-        Row::Three(a, b, c) => number(a) * 7_649 + number(b) * 63_191 + number(c) * 24_829,
-        Row::Four(a, b, c, d) => {
-            number(a) * 7_649 + number(b) * 63_191 + number(c) * 24_829 + number(d) * 41_221
+    match (weights, terms) {
+        ([weight, weights @ ..], [term, terms @ ..]) => {
+            number(*term) * *weight + weigh(weights, terms)
         }
+        _ => 0,
     }
 }
 
@@ -43,7 +45,7 @@ fn slot(atom: &GroundAtom) -> usize
     ensures bound { result < 65521 }
 {
     let predicate = atom.predicate.number() as u64;
-    ((predicate * 36_167 + weight(&atom.terms)) % SLOTS as u64) as usize
+    ((predicate * 36_167 + weigh(&WEIGHTS, atom.terms.as_slice())) % SLOTS as u64) as usize
 }
 
 /// Whether the atom's slot is marked. If not, the atom was never marked.

@@ -1,5 +1,4 @@
 //! The printed line of each answer.
 #![tactic(auto)]
 
-mod format;
 pub mod line;

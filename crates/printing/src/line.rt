@@ -2,7 +2,6 @@
 ghost use Rattle.printing.specs.Printed.{open_text, taken_text, verdict_text, struck_text, refused_text, bad_text, end_text};
 ghost use Rattle.std.specs.Prelude.{◌≡◌, IfOk, string_bytes};
 
-use crate::format::{already, at, bad, entailed, inconsistent, not_entailed, refused};
 use calls::answer::Verdict;
 use refusals::refusal::Refusal;
 use shelves::taken::Taken;
@@ -19,29 +18,14 @@ pub fn open_line(heap: Global, n: usize) -> Result<String, AllocError>
 pub fn taken_line(heap: Global, n: usize, answer: Taken) -> Result<String, AllocError>
     ensures { IfOk result (λ s. string_bytes s ≡ taken_text n answer) }
 {
-    match answer {
-        Taken::Already => already(heap, n),
-        Taken::At(place) => at(heap, n, place),
-    }
+    format!(in heap; "{n} {answer}\n")
 }
 
 /// A certificate was accepted.
 pub fn verdict_line(heap: Global, n: usize, verdict: Verdict) -> Result<String, AllocError>
     ensures { IfOk result (λ s. string_bytes s ≡ verdict_text n verdict) }
 {
-    match verdict {
-        Verdict::Entailed {
-            query,
-            added,
-            nulls,
-        } => entailed(heap, n, query, added, nulls),
-        Verdict::Inconsistent {
-            constraint,
-            added,
-            nulls,
-        } => inconsistent(heap, n, constraint, added, nulls),
-        Verdict::NotEntailed { query, size } => not_entailed(heap, n, query, size),
-    }
+    format!(in heap; "{n} {verdict}\n")
 }
 
 /// A check was struck.
@@ -55,9 +39,7 @@ pub fn struck_line(heap: Global, n: usize) -> Result<String, AllocError>
 pub fn refused_line(heap: Global, n: usize, refusal: Refusal) -> Result<String, AllocError>
     ensures { IfOk result (λ s. string_bytes s ≡ refused_text n refusal) }
 {
-    let number = refusal.number();
-    let (first, second) = refusal.figures();
-    refused(heap, n, number, first, second)
+    format!(in heap; "{n} {refusal}\n")
 }
 
 /// A line of the bundle was refused.
@@ -65,7 +47,7 @@ pub fn bad_line(heap: Global, line: usize, refusal: Refusal) -> Result<String, A
     ensures { IfOk result (λ s. string_bytes s ≡ bad_text line refusal) }
 {
     let number = refusal.number();
-    bad(heap, line, number)
+    format!(in heap; "bad {line} {number}\n")
 }
 
 /// A check that was open at the end was struck.

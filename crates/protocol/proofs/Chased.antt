@@ -13,7 +13,7 @@ use Rattle.chase.proofs.Piles.{stands_on, on_stands}
 use Rattle.refusals.specs.declared.refusal.Refusal.{Refusal}
 use Rattle.book.specs.Theory.{rules_of, queries_of}
 use Rattle.book.specs.declared.book.Book.{Book}
-use Rattle.calls.specs.declared.places.Places.{Places}
+use Rattle.calls.specs.Named.{Places}
 use Rattle.shelves.specs.declared.taken.Taken.{Taken}
 use Rattle.shelves.specs.declared.taken.Taken.TheVariants.{Already, At}
 use Rattle.calls.specs.declared.answer.Verdict.{Verdict}

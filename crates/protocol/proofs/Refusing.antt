@@ -14,8 +14,7 @@ use Rattle.matching.specs.Places.{NotPlaced}
 use Rattle.matching.specs.Places as places
 use Rattle.steps.specs.Stopping as stopping
 use Rattle.steps.specs.Stopping.{Stopped}
-use Rattle.calls.specs.Named.{named}
-use Rattle.calls.specs.declared.places.Places.{Places}
+use Rattle.calls.specs.Named.{Places, named}
 use Rattle.protocol.specs.Calls.{Shown, Unshown, uneven_places, unplaced}
 
 free : (d : Binding) → Extends nothing d

@@ -11,11 +11,9 @@ use Rattle.terms.specs.declared.pattern_term.PatternTerm.TheVariants as slot
 use Rattle.atoms.specs.Meaning.{pattern_meant}
 use Rattle.atoms.specs.declared.atom.Atom.{Atom}
 use Rattle.matching.proofs.Rounds.{nth_map}
-use Rattle.declarations.specs.Bodies.{patterns_listed, patterns_meant}
-use Rattle.declarations.specs.declared.patterns.Patterns.{Patterns}
+use Rattle.declarations.specs.Bodies.{patterns_meant}
 use Rattle.rules.specs.Meaning.{rule_meant}
 use Rattle.rules.specs.declared.rule.Rule.{Rule}
-use Rattle.rules.proofs.Scanning.{guard_at}
 use Rattle.book.specs.Tables.{entries}
 use Rattle.book.specs.Theory.{rules_of, constraints_of, queries_of}
 use Rattle.book.specs.declared.book.Book.{Book}
@@ -40,8 +38,8 @@ plain_slot (slot.Variable v) = tt
 plain_pattern : (p : Atom PatternTerm) → AllByRecursion Plain (pattern_meant p).slots
 plain_pattern p = every_mapped Plain slot_meant plain_slot p.terms
 
-plain_patterns : (ps : Patterns) → PlainAll (patterns_meant ps)
-plain_patterns ps = every_mapped (λ (p : Pattern). AllByRecursion Plain p.slots) pattern_meant plain_pattern (patterns_listed ps)
+plain_patterns : (ps : List (Atom PatternTerm)) → PlainAll (patterns_meant ps)
+plain_patterns ps = every_mapped (λ (p : Pattern). AllByRecursion Plain p.slots) pattern_meant plain_pattern ps
 
 -- constants are below 1,000,000
 pub plain_rules : (b : Book) → AllByRecursion PlainRule (rules_of b)
@@ -55,4 +53,4 @@ plain_constraints b = every_mapped PlainAll patterns_meant plain_patterns (entri
 
 -- every rule has a guard
 pub guarded_rules : (b : Book) → AllByRecursion Guarded (rules_of b)
-guarded_rules b = every_mapped Guarded rule_meant (λ (r : Rule). ap is_some (guard_at (patterns_meant r.body) r.guard r.guarded)) (entries b.rules)
+guarded_rules b = every_mapped Guarded rule_meant (λ (r : Rule). ap is_some r.guarded) (entries b.rules)

@@ -19,8 +19,7 @@ use Rattle.chase.proofs.Searches.{found_complete}
 use Rattle.book.specs.Theory.{rules_of, constraints_of, queries_of}
 use Rattle.book.specs.declared.book.Book.{Book}
 use Rattle.refusals.specs.declared.refusal.Refusal.{Refusal}
-use Rattle.calls.specs.Named.{named}
-use Rattle.calls.specs.declared.places.Places.{Places}
+use Rattle.calls.specs.Named.{Places, named}
 use Rattle.calls.specs.declared.answer.Verdict.{Verdict}
 use Rattle.calls.specs.declared.answer.Check.TheVariants as check
 use Rattle.calls.specs.declared.event.Event.{Event}

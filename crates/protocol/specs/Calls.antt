@@ -16,8 +16,7 @@ use Rattle.steps.specs.Judged.{Bears}
 use Rattle.steps.specs.Stopping.{Stopped}
 use Rattle.chase.specs.Unfit.{FirstUnfit}
 use Rattle.chase.specs.Refuting.{Refutes, NotRefuted}
-use Rattle.calls.specs.Named.{named}
-use Rattle.calls.specs.declared.places.Places.{Places}
+use Rattle.calls.specs.Named.{Places, named}
 use Rattle.shelves.specs.declared.taken.Taken.{Taken}
 use Rattle.shelves.specs.declared.taken.Taken.TheVariants.{Already, At}
 use Rattle.calls.specs.declared.answer.Verdict.{Verdict}

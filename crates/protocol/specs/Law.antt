@@ -9,7 +9,7 @@ use Rattle.reading.specs.declared.raw.RawAtom.{RawAtom}
 use Rattle.refusals.specs.declared.refusal.Refusal.{Refusal}
 use Rattle.book.specs.Theory.{rules_of, constraints_of, queries_of}
 use Rattle.book.specs.declared.book.Book.{Book}
-use Rattle.calls.specs.declared.places.Places.{Places}
+use Rattle.calls.specs.Named.{Places}
 use Rattle.shelves.specs.declared.taken.Taken.{Taken}
 use Rattle.shelves.specs.declared.taken.Taken.TheVariants.{Already, At}
 use Rattle.calls.specs.declared.answer.Verdict.{Verdict}

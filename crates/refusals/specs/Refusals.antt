@@ -1,5 +1,5 @@
 -- The number and the two figures of each refusal, 0 where it has none.
-use Rattle.std.specs.Prelude.{ℕ, ◌≡◌}
+use Rattle.std.specs.Prelude.{ℕ, ◌≡◌, List, ◌++◌, codes, decimal}
 use Rattle.refusals.specs.declared.refusal.Refusal.{Refusal}
 use Rattle.refusals.specs.declared.refusal.Refusal.TheVariants.{ArityOutOfRange, NoPredicateLeft, UndeclaredPredicate, WrongNumberOfTerms, TermNotAllowed, NoGuard, WrongNumberOfPatterns, TableFull, CheckOpen, ShelfFull, NoSuchNumber, PlacePastPile, AtomDoesNotFit, SideAtomMissing, OverlayFull, WrongNumberOfPlaces, RuleNotSatisfied, ConstraintMatches, QueryMatches, PileTooLarge, AlreadyOpen, ForeignSlip, UnfitShelf, BrokenFrame, BrokenLine}
 
@@ -87,3 +87,7 @@ second_figure BrokenLine = 0
 -- it is refusal n, with the figures x and y
 abbrev pub Is : Refusal → ℕ → ℕ → ℕ → Type 0
 Is e n x y = (number_of e ≡ n) × (first_figure e ≡ x) × (second_figure e ≡ y)
+
+-- how it is shown
+abbrev pub refusal_shown : Refusal → List ℕ
+refusal_shown r = codes "refused " ++ (decimal (number_of r) ++ (codes " " ++ (decimal (first_figure r) ++ (codes " " ++ decimal (second_figure r)))))

@@ -1,9 +1,12 @@
 //! Why a call was refused.
-ghost use Rattle.refusals.specs.Refusals.{number_of, first_figure, second_figure};
-ghost use Rattle.std.specs.Prelude.{◌≡◌};
+ghost use Rattle.refusals.specs.Refusals.{number_of, first_figure, second_figure, refusal_shown};
+ghost use Rattle.std.specs.Prelude.{◌≡◌, Some};
+
+use std::error::Error;
+use std::fmt;
 
 /// A refusal, with the figures that go with it. Atom indices count from 0, the head last.
-#[derive(Clone, Copy, Debug)]
+#[derive(Clone, Copy, PartialEq, Eq, Debug)]
 pub enum Refusal {
     /// The arity is not 1 to 4.
     ArityOutOfRange { arity: usize },
@@ -108,3 +111,16 @@ impl Refusal {
         }
     }
 }
+
+/// By its number and its figures.
+impl fmt::Display for Refusal {
+    ghost output = { λ r. Some (refusal_shown r) };
+
+    fn fmt<W: fmt::Write>(&self, f: &mut fmt::Formatter<W>) -> fmt::Result {
+        let number = self.number();
+        let (first, second) = self.figures();
+        write!(f, "refused {number} {first} {second}")
+    }
+}
+
+impl Error for Refusal {}

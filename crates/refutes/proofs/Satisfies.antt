@@ -20,13 +20,12 @@ use Rattle.atoms.specs.Meaning.{atom_meant, pattern_meant}
 use Rattle.atoms.specs.declared.atom.Atom.{Atom}
 use Rattle.terms.specs.declared.pattern_term.PatternTerm.{PatternTerm}
 use Rattle.terms.specs.declared.term.Term.{Term}
-use Rattle.declarations.specs.Bodies.{patterns_meant, patterns_listed}
+use Rattle.declarations.specs.Bodies.{patterns_meant}
 use Rattle.fitting.specs.Bindings.{bound}
 use Rattle.matching.specs.Searches.{pile as pile-of}
 use Rattle.matching.proofs.Rounds.{nth_map}
 use Rattle.rules.specs.Meaning.{rule_meant}
 use Rattle.rules.specs.declared.rule.Rule.{Rule}
-use Rattle.rules.proofs.Scanning.{guard_at}
 use Rattle.steps.specs.Sides.{FirstMissing}
 use Rattle.steps.proofs.Firing.{fires}
 
@@ -45,10 +44,10 @@ pub within : (xs : List (Atom Term)) (n k : ℕ) (a : subject.Atom) → length x
 within xs n k a far e = elim (cases_lt k n) [ inl l ↦ l | inr h ↦ absurd (none_some (sym (past_all xs n k far h) ∙ e)) ]
 
 -- the guard that a rule lends is the one that is computed
-guard_lent : (r : Rule) (p : Atom PatternTerm) → slice_get (patterns_listed r.body) r.guard ≡ Some p → guard_of (rule_meant r) ≡ Some (pattern_meant p)
+guard_lent : (r : Rule) (p : Atom PatternTerm) → slice_get r.body r.guard ≡ Some p → guard_of (rule_meant r) ≡ Some (pattern_meant p)
 guard_lent r p e =
-    ap (λ o. and_then o (slice_get (patterns_meant r.body))) (guard_at (patterns_meant r.body) r.guard r.guarded)
-    ∙ nth_map pattern_meant (patterns_listed r.body) r.guard
+    ap (λ o. and_then o (slice_get (patterns_meant r.body))) r.guarded
+    ∙ nth_map pattern_meant r.body r.guard
     ∙ ap (option_map pattern_meant) e
 
 module _ (pile : List subject.Atom) (rule : subject.Rule) (place : ℕ) where
@@ -84,14 +83,14 @@ module _ (pile : List subject.Atom) (rule : subject.Rule) (place : ℕ) where
       head_decides r every d = (λ t c f. subst (HeadThere pile rule.head) (same c f) (d.0 t), λ s. d.1 (s b (used every)))
 
 -- the same of a rule and an atom of the code, where fitting starts from a binding of nothing
-module _ (xs : List (Atom Term)) (r : Rule) (place : ℕ) (p : Atom PatternTerm) (lent : slice_get (patterns_listed r.body) r.guard ≡ Some p) (a : Atom Term) (here : Some a ≡ slice_get xs place) (u : Binding) (free : (i : ℕ) → u i ≡ None) where
+module _ (xs : List (Atom Term)) (r : Rule) (place : ℕ) (p : Atom PatternTerm) (lent : slice_get r.body r.guard ≡ Some p) (a : Atom Term) (here : Some a ≡ slice_get xs place) (u : Binding) (free : (i : ℕ) → u i ≡ None) where
   from_nothing : (o : Option Binding) → o ≡ fit u (pattern_meant p) (atom_meant a) → fit nothing (pattern_meant p) (atom_meant a) ≡ o
   from_nothing o e = ap (λ b. fit b (pattern_meant p) (atom_meant a)) (sym (fun_ext free)) ∙ sym e
 
   pub unfit_at : None ≡ fit u (pattern_meant p) (atom_meant a) → SatisfiedAt (pile-of xs) (rule_meant r) place
   unfit_at e = unfit_satisfied (pile-of xs) (rule_meant r) place (pattern_meant p) (guard_lent r p lent) (atom_meant a) (there_meant xs place (Some a) here) (from_nothing None e)
 
-  module _ (b : Binding) (fits : Some b ≡ fit u (pattern_meant p) (atom_meant a)) (body : List (Atom PatternTerm)) (is : body ≡ patterns_listed r.body) where
+  module _ (b : Binding) (fits : Some b ≡ fit u (pattern_meant p) (atom_meant a)) (body : List (Atom PatternTerm)) (is : body ≡ r.body) where
     side : (o : Option ℕ) → FirstMissing (pile-of xs) b (map pattern_meant body) o → FirstMissing (pile-of xs) b (patterns_meant r.body) o
     side o = subst (λ ps. FirstMissing (pile-of xs) b (map pattern_meant ps) o) is
 

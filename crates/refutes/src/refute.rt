@@ -47,14 +47,12 @@ fn first_unsatisfied<S: Stock>(stock: &S, rule: &Rule) -> Option<usize>
 fn check_rules<S: Stock>(stock: &S, book: &Book) -> Result<(), Refusal>
     ensures { RulesJudged (pile (S.Stock.list stock.now)) (rules_of book.now) result }
 {
-    for index in 0..book.rules() {
-        if let Some(rule) = book.rule(index + 1) {
-            if let Some(place) = first_unsatisfied(stock, rule) {
-                return Err(Refusal::RuleNotSatisfied {
-                    rule: index + 1,
-                    place,
-                });
-            }
+    for (index, rule) in book.all_rules().iter().enumerate() {
+        if let Some(place) = first_unsatisfied(stock, rule) {
+            return Err(Refusal::RuleNotSatisfied {
+                rule: index + 1,
+                place,
+            });
         }
     }
     Ok(())
@@ -71,13 +69,11 @@ fn has_match<S: Stock>(stock: &S, patterns: &Patterns) -> bool
 fn check_constraints<S: Stock>(stock: &S, book: &Book) -> Result<(), Refusal>
     ensures { ConstraintsJudged (pile (S.Stock.list stock.now)) (constraints_of book.now) result }
 {
-    for index in 0..book.constraints() {
-        if let Some(constraint) = book.constraint(index + 1) {
-            if has_match(stock, constraint) {
-                return Err(Refusal::ConstraintMatches {
-                    constraint: index + 1,
-                });
-            }
+    for (index, constraint) in book.all_constraints().iter().enumerate() {
+        if has_match(stock, constraint) {
+            return Err(Refusal::ConstraintMatches {
+                constraint: index + 1,
+            });
         }
     }
     Ok(())

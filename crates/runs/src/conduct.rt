@@ -11,6 +11,7 @@ use checker::checker::Checker;
 use shelves::stock::Shelf;
 
 /// The book and the shelf back, where there was no memory for a run.
+#[derive(Drop)]
 pub struct Unmade<S> {
     pub book: Book,
     pub shelf: S,

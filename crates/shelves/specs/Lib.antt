@@ -1,3 +1,4 @@
 pub mod Blank
 pub mod Puts
 pub mod Rows
+pub mod Shown

@@ -5,7 +5,6 @@ use Rattle.std.proofs.lemmas.Bool.{both_ways, or_cases, eqb-true, eq-eqb}
 use Rattle.semantics.specs.Subject.{Slot, con, var, Binding, in_slots}
 use Rattle.semantics.proofs.Fitting.{some_is, none_some}
 use Rattle.chase.specs.Chase.{fresh, fresh_slot, fresh_var}
-use Rattle.rules.proofs.Scanning.{drop_at}
 use Rattle.terms.specs.Meaning.{slot_meant}
 use Rattle.terms.specs.declared.pattern_term.PatternTerm.{PatternTerm}
 use Rattle.fitting.specs.Bindings.{bound}
@@ -25,10 +24,19 @@ pub grows : (b : Binding) (n : ℕ) (ss : List Slot) → n ≤ (fresh b n ss).1
 grows b n [] = omega arith
 grows b n (s ∷ ss) = omega (arith, slot_grows b n s, grows (fresh_slot b n s).0 (fresh_slot b n s).1 ss)
 
+-- what is left from an index at which something stands
+drop_there : {X : Type 0} (xs : List X) (i : ℕ) (x : X) → slice_get xs i ≡ Some x → drop i xs ≡ x ∷ drop (i + 1) xs
+drop_there {X = X} xs i x e = let s : suc i ≡ i + 1 = omega arith in subst (λ n. drop i xs ≡ x ∷ drop n xs) s (go xs i e)
+  where
+    go : (ys : List X) (k : ℕ) → slice_get ys k ≡ Some x → drop k ys ≡ x ∷ drop (suc k) ys
+    go [] k q = absurd (none_some q)
+    go (y ∷ ys) zero q = ap (λ (z : X). z ∷ ys) (some_is q)
+    go (y ∷ ys) (suc k) q = go ys k q
+
 module _ (b : Binding) (n : ℕ) (xs : List PatternTerm) (i : ℕ) (x : PatternTerm) (there : slice_get xs i ≡ Some x) where
   -- one slot, then the others
   one : fresh b n (map slot_meant (drop i xs)) ≡ fresh (fresh_slot b n (slot_meant x)).0 (fresh_slot b n (slot_meant x)).1 (map slot_meant (drop (i + 1) xs))
-  one = ap (λ l. fresh b n (map slot_meant l)) (drop_at xs i x there)
+  one = ap (λ l. fresh b n (map slot_meant l)) (drop_there xs i x there)
 
   pub slot_more : (f : Fresh) → Freshened b n (slot_meant x ∷ []) (Some f) → fresh (bound f.binding) f.nulls (map slot_meant (drop (i + 1) xs)) ≡ fresh b n (map slot_meant (drop i xs))
   slot_more f h = (λ k. fresh (h.0 k) (h.1 k) (map slot_meant (drop (i + 1) xs))) ∙ sym one
@@ -44,15 +52,6 @@ past_all b n [] zero h = refl
 past_all b n [] (suc i) h = refl
 past_all b n (x ∷ xs) zero h = absurd (omega arith)
 past_all b n (x ∷ xs) (suc i) h = past_all b n xs i (omega arith)
-
-pub past_one : (b : Binding) (n : ℕ) (xs : List PatternTerm) (i : ℕ) → slice_get xs i ≡ None → fresh b n (map slot_meant (drop (i + 1) xs)) ≡ fresh b n (map slot_meant (drop i xs))
-past_one b n xs i e = rw add-one (go xs i e)
-  where
-    go : (xs : List PatternTerm) (i : ℕ) → slice_get xs i ≡ None → fresh b n (map slot_meant (drop (suc i) xs)) ≡ fresh b n (map slot_meant (drop i xs))
-    go [] zero e = refl
-    go [] (suc i) e = refl
-    go (y ∷ ys) zero e = absurd (none_some (sym e))
-    go (y ∷ ys) (suc i) e = go ys i e
 
 -- a variable that has a term keeps it
 slot_keeps : (b : Binding) (n : ℕ) (s : Slot) (j : ℕ) → is_some (b j) ≡ true → is_some ((fresh_slot b n s).0 j) ≡ true

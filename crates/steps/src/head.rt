@@ -27,8 +27,7 @@ fn fresh_slot(fresh: Fresh, slot: PatternTerm) -> Option<Fresh>
         PatternTerm::Variable(variable) => {
             let index = variable.index();
             let mut binding = fresh.binding;
-            let held = binding[index];
-            match held {
+            match binding[index] {
                 Some(_) => Some(fresh),
                 None => {
                     let null = Null::new(fresh.nulls)?;
@@ -49,10 +48,8 @@ pub(crate) fn with_nulls(fresh: Fresh, head: &Pattern) -> Option<Fresh>
     ensures { Freshened (bound fresh.binding) fresh.nulls (pattern_meant head.now).slots result }
 {
     let mut now_fresh = fresh;
-    for i in 0..head.terms.len() {
-        if let Some(slot) = head.terms.get(i) {
-            now_fresh = fresh_slot(now_fresh, slot)?;
-        }
+    for slot in head.terms.as_slice() {
+        now_fresh = fresh_slot(now_fresh, *slot)?;
     }
     Some(now_fresh)
 }

@@ -47,8 +47,5 @@ pub fn judge_step<S: Stock>(
     if let Some(pattern) = first_missing(stock, binding, rule.body()) {
         return Err(Refusal::SideAtomMissing { pattern });
     }
-    match bear(rule.head(), binding, nulls) {
-        Some(head) => Ok(head),
-        None => Err(Refusal::OverlayFull),
-    }
+    bear(rule.head(), binding, nulls).ok_or(Refusal::OverlayFull)
 }

@@ -6,6 +6,7 @@ mod exactness;
 pub mod null;
 pub mod pattern_term;
 pub mod predicate;
+mod shown;
 pub mod slot;
 pub mod term;
 pub mod variable;

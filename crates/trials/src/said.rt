@@ -4,7 +4,8 @@ use calls::answer::Verdict;
 use calls::candidate::Candidate;
 use calls::places::Places;
 use checker::checker::Checker;
-use checker::slip::{DerivationSlip, ModelSlip, Returned};
+use checker::kind::Kind;
+use checker::slip::{DerivationSlip, ModelSlip, Returned, Slip};
 use refusals::refusal::Refusal;
 use shelves::stock::Shelf;
 use shelves::taken::Taken;
@@ -47,15 +48,24 @@ pub fn struck(answer: Result<(), Refusal>) -> Said {
     }
 }
 
-/// Claims, and gives the check up where that is refused.
-pub fn claim<S: Shelf>(checker: &mut Checker<S>, slip: DerivationSlip, places: &[usize]) -> Said {
-    match checker.claim::<Anything>(slip, Places::new(places)) {
+/// The verdict; the check is given up where it was refused.
+fn judged<K: Kind, S: Shelf>(
+    checker: &mut Checker<S>,
+    answer: Result<Verdict, Returned<Slip<K>>>,
+) -> Said {
+    match answer {
         Ok(verdict) => Said::Judged(verdict),
         Err(Returned { refusal, slip }) => {
-            let _ = checker.strike_derivation(slip);
+            let _ = checker.strike(slip);
             refused(refusal)
         }
     }
+}
+
+/// Claims, and gives the check up where that is refused.
+pub fn claim<S: Shelf>(checker: &mut Checker<S>, slip: DerivationSlip, places: &[usize]) -> Said {
+    let answer = checker.claim::<Anything>(slip, Places::new(places));
+    judged(checker, answer)
 }
 
 /// Claims a clash, and gives the check up where that is refused.
@@ -65,24 +75,14 @@ pub fn clash<S: Shelf>(
     constraint: usize,
     places: &[usize],
 ) -> Said {
-    match checker.clash::<Anything>(slip, constraint, Places::new(places)) {
-        Ok(verdict) => Said::Judged(verdict),
-        Err(Returned { refusal, slip }) => {
-            let _ = checker.strike_derivation(slip);
-            refused(refusal)
-        }
-    }
+    let answer = checker.clash::<Anything>(slip, constraint, Places::new(places));
+    judged(checker, answer)
 }
 
 /// Refutes, and gives the check up where that is refused.
 pub fn refute<S: Shelf>(checker: &mut Checker<S>, slip: ModelSlip) -> Said {
-    match checker.refute::<Anything>(slip) {
-        Ok(verdict) => Said::Judged(verdict),
-        Err(Returned { refusal, slip }) => {
-            let _ = checker.strike_model(slip);
-            refused(refusal)
-        }
-    }
+    let answer = checker.refute::<Anything>(slip);
+    judged(checker, answer)
 }
 
 /// The predicate and the first two terms as whole numbers, 0 where there is none.

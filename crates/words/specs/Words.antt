@@ -1,5 +1,5 @@
 -- Words and their marks: how they are written, and what each byte does.
-use Rattle.std.specs.Prelude.{ℕ, ◌+◌, ◌-◌, ◌*◌, ◌^◌, ◌<◌, Bool, cond, ◌&&◌, List, [], ◌∷◌, ◌++◌, Some, None, decimal, Option, ◌==◌, nat_le, nat_lt}
+use Rattle.std.specs.Prelude.{ℕ, ◌+◌, ◌-◌, ◌*◌, ◌^◌, ◌<◌, Bool, cond, ◌&&◌, List, [], ◌∷◌, ◌++◌, Some, None, decimal, Option, option_and_then, ◌==◌, nat_le, nat_lt}
 use Rattle.reading.specs.declared.raw.RawTerm.{RawTerm}
 use Rattle.reading.specs.declared.raw.RawTerm.TheVariants as raw
 use Rattle.words.specs.declared.word.TermKind.{TermKind}
@@ -10,7 +10,7 @@ use Rattle.words.specs.declared.word.Token.{Token}
 use Rattle.words.specs.declared.word.State.{State}
 use Rattle.words.specs.declared.word.State.TheVariants.{BetweenWords, AfterV, AfterN, InNumber}
 use Rattle.words.specs.declared.word.Step.{Step}
-use Rattle.words.specs.declared.word.Step.TheVariants.{Go, Ends, Refused}
+use Rattle.words.specs.declared.word.Step.TheVariants.{Go, Ends}
 
 -- a constant is written bare, a variable as v1, a null as n0; numbers in decimal, without leading zeros
 abbrev pub term_text : RawTerm → List ℕ
@@ -49,22 +49,21 @@ term_of Null n = raw.Null n
 abbrev pub token : TermKind → ℕ → Mark → Token
 token k n m = record { term = term_of k n; mark = m }
 
--- what a byte does in each state
-abbrev pub step_of : State → ℕ → Step
-step_of BetweenWords b = cond (b == 118) (Go AfterV) (cond (b == 110) (Go AfterN) (cond (digit b) (Go (InNumber Constant (b - 48))) Refused))
-step_of AfterV b = cond (digit b) (Go (InNumber Variable (b - 48))) Refused
-step_of AfterN b = cond (digit b) (Go (InNumber Null (b - 48))) Refused
+-- what a byte does in each state; none where it breaks the form
+abbrev pub step_of : State → ℕ → Option Step
+step_of BetweenWords b = cond (b == 118) (Some (Go AfterV)) (cond (b == 110) (Some (Go AfterN)) (cond (digit b) (Some (Go (InNumber Constant (b - 48)))) None))
+step_of AfterV b = cond (digit b) (Some (Go (InNumber Variable (b - 48)))) None
+step_of AfterN b = cond (digit b) (Some (Go (InNumber Null (b - 48)))) None
 step_of (InNumber k n) b =
-    cond (digit b && (nat_lt 0 n && nat_lt n 1000000)) (Go (InNumber k (n * 10 + (b - 48))))
-    (cond (b == 32) (Ends (token k n Space))
-    (cond (b == 44) (Ends (token k n Comma))
-    (cond (b == 59) (Ends (token k n Semicolon))
-    (cond (b == 10) (Ends (token k n End)) Refused))))
+    cond (digit b && (nat_lt 0 n && nat_lt n 1000000)) (Some (Go (InNumber k (n * 10 + (b - 48)))))
+    (cond (b == 32) (Some (Ends (token k n Space)))
+    (cond (b == 44) (Some (Ends (token k n Comma)))
+    (cond (b == 59) (Some (Ends (token k n Semicolon)))
+    (cond (b == 10) (Some (Ends (token k n End))) None))))
 
-abbrev pub by_step : {R : Type 0} → (State → R) → (Token → R) → R → Step → R
-by_step go ends none (Go s) = go s
-by_step go ends none (Ends t) = ends t
-by_step go ends none Refused = none
+abbrev pub by_step : {R : Type 0} → (State → R) → (Token → R) → Step → R
+by_step go ends (Go s) = go s
+by_step go ends (Ends t) = ends t
 
 abbrev pub at_end : List Token → State → Option (List Token)
 at_end out BetweenWords = Some out
@@ -75,7 +74,7 @@ at_end out (InNumber k n) = None
 -- the words so far and those of the bytes that follow
 abbrev pub scan : List Token → State → List ℕ → Option (List Token)
 scan out s [] = at_end out s
-scan out s (b ∷ bs) = by_step (λ t. scan out t bs) (λ w. scan (out ++ w ∷ []) BetweenWords bs) None (step_of s b)
+scan out s (b ∷ bs) = option_and_then (by_step (λ t. scan out t bs) (λ w. scan (out ++ w ∷ []) BetweenWords bs)) (step_of s b)
 
 abbrev pub tokens_of : List ℕ → Option (List Token)
 tokens_of line = scan [] BetweenWords (line ++ 10 ∷ [])

@@ -2,7 +2,7 @@
 use reading::raw::RawTerm;
 
 /// What a word names.
-#[derive(Clone, Copy)]
+#[derive(Clone, Copy, PartialEq, Eq, Debug)]
 pub enum TermKind {
     Constant,
     Variable,
@@ -10,7 +10,7 @@ pub enum TermKind {
 }
 
 /// The byte that ends a word.
-#[derive(Clone, Copy)]
+#[derive(Clone, Copy, PartialEq, Eq, Debug)]
 pub enum Mark {
     Space,
     Comma,
@@ -19,14 +19,14 @@ pub enum Mark {
 }
 
 /// A word and the mark after it.
-#[derive(Clone, Copy)]
+#[derive(Clone, Copy, PartialEq, Eq, Debug)]
 pub struct Token {
     pub term: RawTerm,
     pub mark: Mark,
 }
 
 /// Where the reader stands in a line.
-#[derive(Clone, Copy)]
+#[derive(Clone, Copy, PartialEq, Eq, Debug)]
 pub enum State {
     BetweenWords,
     AfterV,
@@ -34,10 +34,9 @@ pub enum State {
     InNumber(TermKind, u32),
 }
 
-/// What a byte does.
-#[derive(Clone, Copy)]
+/// What a byte does: the word goes on, or ends.
+#[derive(Clone, Copy, PartialEq, Eq, Debug)]
 pub enum Step {
     Go(State),
     Ends(Token),
-    Refused,
 }

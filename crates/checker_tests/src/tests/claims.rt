@@ -6,7 +6,7 @@ use flat_shelf::flat::FlatShelf;
 use shelves::record::Record;
 use std::test::Fail;
 use trials::raw::{k, one, two};
-use trials::runs::{claims, clashes, lodges};
+use trials::runs::{claims, lodges};
 use trials::said::Said;
 use trials::small::small_book;
 
@@ -75,7 +75,7 @@ fn clashes_in_order(rt: HostRuntime) -> Result<(), Fail> {
     let mut checker = Checker::new(book, FlatShelf::new(&mut records), 7);
     let _ = lodges(&mut checker, [two(2, k(17), k(18)), two(2, k(18), k(18))]);
     let none = Places::new(&[]);
-    let said = clashes(&mut checker, 1, [(0, none), (2, none), (1, none)]);
+    let said = claims(&mut checker, 1, [(0, none), (2, none), (1, none)]);
     let numbers = [
         Said::Refused(11, 0, 0),
         Said::Refused(11, 2, 0),
@@ -92,7 +92,7 @@ fn clashes_in_order(rt: HostRuntime) -> Result<(), Fail> {
         (1, Places::new(&[0])),
         (1, Places::new(&[1])),
     ];
-    let said = clashes(&mut checker, 1, shown);
+    let said = claims(&mut checker, 1, shown);
     let numbers = [
         Said::Refused(12, 0, 2),
         Said::Refused(13, 0, 0),

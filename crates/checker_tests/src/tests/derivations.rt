@@ -6,7 +6,7 @@ use shelves::record::Record;
 use shelves::stock::Shelf;
 use std::test::Fail;
 use trials::raw::{k, one, two};
-use trials::runs::{derive, lodges, steps};
+use trials::runs::{adds, derive, lodges};
 use trials::said::{Said, claim, refused, taken, told};
 use trials::small::small_book;
 
@@ -24,7 +24,7 @@ fn use_twice<S: Shelf>(
     rule: usize,
     places: &[usize],
 ) -> Twice {
-    match checker.open_derivation(query) {
+    match checker.open(query) {
         Err(refusal) => {
             let said = refused(refusal);
             Twice {
@@ -125,7 +125,7 @@ fn steps_refused(rt: HostRuntime) -> Result<(), Fail> {
     let mut records = [Record::blank(); 4];
     let mut checker = Checker::new(book, FlatShelf::new(&mut records), 7);
     assert_eq!(rt; lodges(&mut checker, [one(1, k(17))]), [Said::At(0)]);
-    let said = steps(&mut checker, 1, [(0, 0), (4, 9), (2, 9), (2, 0)]);
+    let said = adds(&mut checker, 1, [(0, 0), (4, 9), (2, 9), (2, 0)]);
     let numbers = [
         Said::Refused(11, 0, 0),
         Said::Refused(11, 4, 0),
@@ -133,7 +133,7 @@ fn steps_refused(rt: HostRuntime) -> Result<(), Fail> {
         Said::Refused(13, 0, 0),
     ];
     assert_eq!(rt; said, numbers);
-    let said = steps(&mut checker, 1, [(1, 0), (2, 1), (2, 2), (1, 1)]);
+    let said = adds(&mut checker, 1, [(1, 0), (2, 1), (2, 2), (1, 1)]);
     let numbers = [
         Said::At(1),
         Said::Refused(14, 1, 0),
@@ -152,7 +152,7 @@ fn a_head_that_stands_there(rt: HostRuntime) -> Result<(), Fail> {
     let mut records = [Record::blank(); 4];
     let mut checker = Checker::new(book, FlatShelf::new(&mut records), 7);
     let _ = lodges(&mut checker, [two(2, k(17), k(18)), one(3, k(17))]);
-    let said = steps(&mut checker, 3, [(2, 0), (2, 0)]);
+    let said = adds(&mut checker, 3, [(2, 0), (2, 0)]);
     assert_eq!(rt; said, [Said::At(2), Said::Already]);
     let verdict = Verdict::Entailed {
         query: 3,
@@ -172,7 +172,7 @@ fn use_often<S: Shelf>(
     often: (usize, usize),
     other: (usize, usize),
 ) -> (usize, Said, Said) {
-    match checker.open_derivation(1) {
+    match checker.open(1) {
         Err(refusal) => (0, refused(refusal), refused(refusal)),
         Ok(slip) => {
             let mut count = 0;
@@ -183,7 +183,7 @@ fn use_often<S: Shelf>(
             }
             let last = taken(checker.step(&slip, often.0, often.1));
             let after = taken(checker.step(&slip, other.0, other.1));
-            let _ = checker.strike_derivation(slip);
+            let _ = checker.strike(slip);
             (count, last, after)
         }
     }

@@ -1,6 +1,6 @@
 //! Lodging and opening.
-use calls::answer::Check;
 use checker::checker::Checker;
+use checker::kind::{Derivation, Kind, Model};
 use flat_shelf::flat::FlatShelf;
 use reading::raw::RawAtom;
 use shelves::record::Record;
@@ -47,30 +47,13 @@ fn a_full_shelf(rt: HostRuntime) -> Result<(), Fail> {
 }
 
 /// What lodging and opening are refused with, while a check is open.
-fn while_open<S: Shelf>(checker: &mut Checker<S>, model: bool) -> [Said; 4] {
-    let fact = one(9, n(0));
-    if model {
-        match checker.open_model(1) {
-            Err(refusal) => [refused(refusal); 4],
-            Ok(slip) => {
-                let lodged = taken(checker.lodge(&fact));
-                let [first, second] = opens(checker, 9);
-                [lodged, first, second, struck(checker.strike_model(slip))]
-            }
-        }
-    } else {
-        match checker.open_derivation(1) {
-            Err(refusal) => [refused(refusal); 4],
-            Ok(slip) => {
-                let lodged = taken(checker.lodge(&fact));
-                let [first, second] = opens(checker, 9);
-                [
-                    lodged,
-                    first,
-                    second,
-                    struck(checker.strike_derivation(slip)),
-                ]
-            }
+fn while_open<K: Kind, S: Shelf>(checker: &mut Checker<S>) -> [Said; 4] {
+    match checker.open::<K>(1) {
+        Err(refusal) => [refused(refusal); 4],
+        Ok(slip) => {
+            let lodged = taken(checker.lodge(&one(9, n(0))));
+            let [first, second] = opens(checker, 9);
+            [lodged, first, second, struck(checker.strike(slip))]
         }
     }
 }
@@ -86,9 +69,12 @@ fn while_a_check_is_open(rt: HostRuntime) -> Result<(), Fail> {
         Said::Refused(21, 0, 0),
         Said::Struck,
     ];
-    assert_eq!(rt; while_open(&mut checker, false), numbers);
-    assert_eq!(rt; while_open(&mut checker, true), numbers);
-    assert_eq!(rt; checker.check(), Check::Shut);
+    assert_eq!(rt;
+        while_open::<Derivation, FlatShelf<'_>>(&mut checker),
+        numbers
+    );
+    assert_eq!(rt; while_open::<Model, FlatShelf<'_>>(&mut checker), numbers);
+    assert_eq!(rt; checker.check(), None);
     assert_eq!(rt; taken(checker.lodge(&one(1, k(17)))), Said::At(0));
     Ok(())
 }

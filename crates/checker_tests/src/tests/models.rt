@@ -102,7 +102,7 @@ fn the_lowest_rule_and_place(rt: HostRuntime) -> Result<(), Fail> {
 
 /// So many atoms `2 17 x` added at the places from 0, then the refutation.
 fn many<S: Shelf>(checker: &mut Checker<S>, query: usize, count: u32) -> (usize, Said) {
-    match checker.open_model(query) {
+    match checker.open(query) {
         Err(refusal) => (0, refused(refusal)),
         Ok(slip) => {
             for i in 0..count {
@@ -135,7 +135,7 @@ fn a_pile_of_128(rt: HostRuntime) -> Result<(), Fail> {
 
 /// 256 atoms added, then a new one, an old one and a fact.
 fn fill<S: Shelf>(checker: &mut Checker<S>) -> (usize, [Said; 3]) {
-    match checker.open_model(3) {
+    match checker.open(3) {
         Err(refusal) => (0, [refused(refusal); 3]),
         Ok(slip) => {
             let mut count = 0;
@@ -147,7 +147,7 @@ fn fill<S: Shelf>(checker: &mut Checker<S>) -> (usize, [Said; 3]) {
             let new = taken(checker.add(&slip, &two(2, k(17), n(256))));
             let old = taken(checker.add(&slip, &two(2, k(17), n(255))));
             let fact = taken(checker.add(&slip, &one(1, k(17))));
-            let _ = checker.strike_model(slip);
+            let _ = checker.strike(slip);
             (count, [new, old, fact])
         }
     }

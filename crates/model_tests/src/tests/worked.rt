@@ -7,12 +7,12 @@ use shelves::record::Record;
 use shelves::stock::Shelf;
 use std::test::Fail;
 use trials::raw::{one, three, two};
-use trials::runs::{adds, counter, derive, lodges, steps};
+use trials::runs::{adds, counter, derive, lodges};
 use trials::said::{Said, told};
 
 /// The five steps from `2 12`, and the atoms that they add.
 fn added<S: Shelf>(checker: &mut Checker<S>) -> [(usize, u32, u32); 4] {
-    match checker.open_derivation(4) {
+    match checker.open(4) {
         Err(_) => [(0, 0, 0); 4],
         Ok(slip) => {
             for (rule, place) in [(2, 6), (3, 7), (4, 8), (5, 8), (6, 8)] {
@@ -24,7 +24,7 @@ fn added<S: Shelf>(checker: &mut Checker<S>) -> [(usize, u32, u32); 4] {
                 told(checker.atom_at(9)),
                 told(checker.atom_at(10)),
             ];
-            let _ = checker.strike_derivation(slip);
+            let _ = checker.strike(slip);
             atoms
         }
     }
@@ -46,7 +46,7 @@ fn steps_from_ada(rt: HostRuntime) -> Result<(), Fail> {
         Said::At(10),
         Said::Refused(13, 0, 3),
     ];
-    assert_eq!(rt; steps(&mut checker, 4, uses), said);
+    assert_eq!(rt; adds(&mut checker, 4, uses), said);
     let atoms = [
         (3, 12, 1000000),
         (6, 12, 1000000),
@@ -74,11 +74,11 @@ fn who_supervises_a_manager(rt: HostRuntime) -> Result<(), Fail> {
     let mut checker = Checker::new(book, FlatShelf::new(&mut records), 1);
     let _ = lodges(&mut checker, six_facts());
     assert_eq!(rt;
-        steps(&mut checker, 1, [(7, 3), (7, 0)]),
+        adds(&mut checker, 1, [(7, 3), (7, 0)]),
         [Said::Refused(14, 2, 0), Said::Refused(13, 0, 0)]
     );
     assert_eq!(rt; lodges(&mut checker, [one(2, ADA)]), [Said::At(6)]);
-    assert_eq!(rt; steps(&mut checker, 1, [(7, 3)]), [Said::Already]);
+    assert_eq!(rt; adds(&mut checker, 1, [(7, 3)]), [Said::Already]);
     assert_eq!(rt; checker.size(), 7);
     Ok(())
 }

@@ -1,6 +1,7 @@
 //! What a refused call leaves, and the end of a checker.
 use calls::answer::Check;
 use checker::checker::Checker;
+use checker::kind::{Derivation, Kind, Model};
 use flat_shelf::flat::FlatShelf;
 use shelves::record::Record;
 use shelves::stock::{Shelf, Stock};
@@ -11,7 +12,7 @@ use trials::said::{Said, claim, refused, refute, struck, taken, told};
 use trials::small::small_book;
 
 /// How many atoms the pile has, and what is open.
-fn seen<S: Shelf>(checker: &Checker<S>) -> (usize, Check) {
+fn seen<S: Shelf>(checker: &Checker<S>) -> (usize, Option<Check>) {
     (checker.size(), checker.check())
 }
 
@@ -20,16 +21,16 @@ fn seen<S: Shelf>(checker: &Checker<S>) -> (usize, Check) {
 fn end_while_open<S: Shelf + Drop, T: Shelf>(
     checker: Checker<S>,
     other: &mut Checker<T>,
-) -> (Check, Said, bool) {
+) -> (Option<Check>, Said, bool) {
     let mut checker = checker;
-    match checker.open_model(2) {
-        Err(refusal) => (Check::Shut, refused(refusal), false),
+    match checker.open::<Model>(2) {
+        Err(refusal) => (None, refused(refusal), false),
         Ok(slip) => match checker.end() {
-            Ok(_) => (Check::Shut, struck(other.strike_model(slip)), false),
+            Ok(_) => (None, struck(other.strike(slip)), false),
             Err(back) => {
                 let mut back = back;
                 let check = back.check();
-                let strike = struck(back.strike_model(slip));
+                let strike = struck(back.strike(slip));
                 (check, strike, back.end().is_ok())
             }
         },
@@ -44,7 +45,7 @@ fn no_end_while_a_check_is_open(rt: HostRuntime) -> Result<(), Fail> {
     let mut other = Checker::new(small_book(rt.alloc())?, FlatShelf::new(&mut records), 8);
     assert_eq!(rt;
         end_while_open(checker, &mut other),
-        (Check::Model(2), Said::Struck, true)
+        (Some(Check::Model(2)), Said::Struck, true)
     );
     Ok(())
 }
@@ -60,30 +61,29 @@ fn the_end(rt: HostRuntime) -> Result<(), Fail> {
     };
     assert_eq!(rt; (book.rules(), shelf.len(), shelf.free_count()), (3, 1, 1));
     let mut again = Checker::new(book, shelf, 8);
-    assert_eq!(rt; seen(&again), (1, Check::Shut));
+    assert_eq!(rt; seen(&again), (1, None));
     assert_eq!(rt; lodges(&mut again, [one(1, k(17))]), [Said::Already]);
     Ok(())
 }
 
+/// The number that a slip of the kind bears, or 0.
+fn slip_number<K: Kind, S: Shelf>(checker: &mut Checker<S>) -> u16 {
+    match checker.open::<K>(1) {
+        Err(_) => 0,
+        Ok(slip) => {
+            let number = slip.number();
+            let _ = checker.strike(slip);
+            number
+        }
+    }
+}
+
 /// The numbers that the slips of both kinds bear.
 fn slip_numbers<S: Shelf>(checker: &mut Checker<S>) -> [u16; 2] {
-    let derivation = match checker.open_derivation(1) {
-        Err(_) => 0,
-        Ok(slip) => {
-            let number = slip.number();
-            let _ = checker.strike_derivation(slip);
-            number
-        }
-    };
-    let model = match checker.open_model(1) {
-        Err(_) => 0,
-        Ok(slip) => {
-            let number = slip.number();
-            let _ = checker.strike_model(slip);
-            number
-        }
-    };
-    [derivation, model]
+    [
+        slip_number::<Derivation, S>(checker),
+        slip_number::<Model, S>(checker),
+    ]
 }
 
 #[test]
@@ -98,9 +98,9 @@ fn slips_bear_the_number(rt: HostRuntime) -> Result<(), Fail> {
 /// A step, refused ones, a step again: size and check in between, and what the second step added.
 fn refused_steps<S: Shelf>(
     checker: &mut Checker<S>,
-) -> ([(usize, Check); 2], (usize, u32, u32), Said) {
-    match checker.open_derivation(2) {
-        Err(refusal) => ([(0, Check::Shut); 2], (0, 0, 0), refused(refusal)),
+) -> ([(usize, Option<Check>); 2], (usize, u32, u32), Said) {
+    match checker.open(2) {
+        Err(refusal) => ([(0, None); 2], (0, 0, 0), refused(refusal)),
         Ok(slip) => {
             let _ = checker.step(&slip, 1, 0);
             let before = seen(checker);
@@ -121,17 +121,17 @@ fn refused_steps_change_nothing(rt: HostRuntime) -> Result<(), Fail> {
     let mut checker = Checker::new(small_book(rt.alloc())?, FlatShelf::new(&mut records), 7);
     assert_eq!(rt; lodges(&mut checker, [one(1, k(17))]), [Said::At(0)]);
     let (both, atom, claimed) = refused_steps(&mut checker);
-    assert_eq!(rt; both, [(2, Check::Derivation(2)); 2]);
+    assert_eq!(rt; both, [(2, Some(Check::Derivation(2))); 2]);
     assert_eq!(rt; atom, (2, 17, 1000001));
     assert_eq!(rt; claimed, Said::Refused(13, 0, 2));
-    assert_eq!(rt; seen(&checker), (1, Check::Shut));
+    assert_eq!(rt; seen(&checker), (1, None));
     Ok(())
 }
 
 /// An atom added, one refused, and the pile before and after.
-fn refused_adds<S: Shelf>(checker: &mut Checker<S>) -> ([(usize, Check); 2], Said, Said) {
-    match checker.open_model(1) {
-        Err(refusal) => ([(0, Check::Shut); 2], refused(refusal), Said::Already),
+fn refused_adds<S: Shelf>(checker: &mut Checker<S>) -> ([(usize, Option<Check>); 2], Said, Said) {
+    match checker.open(1) {
+        Err(refusal) => ([(0, None); 2], refused(refusal), Said::Already),
         Ok(slip) => {
             let _ = checker.add(&slip, &two(2, k(17), n(0)));
             let before = seen(checker);
@@ -149,9 +149,9 @@ fn refused_adds_change_nothing(rt: HostRuntime) -> Result<(), Fail> {
     let mut checker = Checker::new(small_book(rt.alloc())?, FlatShelf::new(&mut records), 7);
     assert_eq!(rt; lodges(&mut checker, [one(1, k(17))]), [Said::At(0)]);
     let (both, lodged, refuted) = refused_adds(&mut checker);
-    assert_eq!(rt; both, [(2, Check::Model(1)); 2]);
+    assert_eq!(rt; both, [(2, Some(Check::Model(1))); 2]);
     assert_eq!(rt; lodged, Said::Refused(9, 0, 0));
     assert_eq!(rt; refuted, Said::Refused(19, 1, 0));
-    assert_eq!(rt; seen(&checker), (1, Check::Shut));
+    assert_eq!(rt; seen(&checker), (1, None));
     Ok(())
 }

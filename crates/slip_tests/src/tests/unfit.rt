@@ -27,7 +27,7 @@ fn constant(number: u32) -> Result<Term, Missing> {
 /// The predicate with one constant.
 fn single(predicate: usize, number: u32) -> Result<GroundAtom, Missing> {
     let predicate = Predicate::new(predicate).ok_or(Missing)?;
-    let terms = Row::One(constant(number)?);
+    let terms = Row::one(constant(number)?);
     Ok(Atom { predicate, terms })
 }
 
@@ -35,7 +35,7 @@ fn single(predicate: usize, number: u32) -> Result<GroundAtom, Missing> {
 fn with_null() -> Result<GroundAtom, Missing> {
     let predicate = Predicate::new(2).ok_or(Missing)?;
     let null = Term::Null(Null::new(0).ok_or(Missing)?);
-    let terms = Row::Two(constant(17)?, null);
+    let terms = Row::from_slice(&[constant(17)?, null]).ok_or(Missing)?;
     Ok(Atom { predicate, terms })
 }
 

@@ -1,19 +1,13 @@
-use Rattle.std.proofs.Common.{◌≡◌, None, vec_items, sym, ap, ◌∙◌}
+use Rattle.std.proofs.Common.{arith}
+use Rattle.std.proofs.lemmas.Grind.{common_steps}
 use Rattle.std.specs.Option.{option_map}
-use Rattle.words.proofs.Inverse.{reads, made_weaker}
-use Rattle.lines.specs.Sentences.{sentence, spoken_text, GoodSpoken, bound, gathered, spoken_of}
+use Rattle.words.proofs.Inverse.{answers}
+use Rattle.lines.specs.Sentences.{sentence, spoken_text, GoodSpoken, spoken_of}
 use Rattle.lines.proofs.Speech.{spoken_inverse}
 use Rattle.lines.proofs.sentence.read_sentence.Goals as goal
 
-pub returns-in-Some : goal.returns-in-Some
-returns-in-Some c =
-    let e = ap gathered c.as_slice.ensures.value ∙ ap (bound gathered) (sym (ap (option_map vec_items) c.in-Some.is) ∙ c.in_ok-words.ensures.same) in
-    record {
-      same = made_weaker c.gather.result _ _ (λ o h. h ∙ e) c.gather.ensures;
-      reads = made_weaker c.gather.result _ _ (λ o h. reads GoodSpoken spoken_text spoken_of spoken_inverse c.args.line.now (option_map sentence o) (h ∙ e)) c.gather.ensures;
-    }
+pub returns-in_err-words-clause-reads : goal.returns-in_err-words-clause-reads
+returns-in_err-words-clause-reads c = answers GoodSpoken spoken_text spoken_of spoken_inverse (option_map sentence) c.args.line.now c.from_residual.result (grind (arith, common_steps))
 
-pub returns-in-None : goal.returns-in-None
-returns-in-None c =
-    let e : None ≡ spoken_of c.args.line.now = ap (bound gathered) (sym (ap (option_map vec_items) c.in-None.is) ∙ c.in_ok-words.ensures.same) in
-    record { same = e; reads = reads GoodSpoken spoken_text spoken_of spoken_inverse c.args.line.now None e }
+pub returns-clause-reads : goal.returns-clause-reads
+returns-clause-reads c = answers GoodSpoken spoken_text spoken_of spoken_inverse (option_map sentence) c.args.line.now c.gather.result (grind (arith, common_steps))

@@ -13,4 +13,4 @@ returns g c =
     let m = On (pile (g.S.Stock.list c.args.stock.now)) in
     let o = c.find_match.result in
     found_decides m (patterns_meant c.args.patterns.now) o c.is_some.result c.is_some.ensures
-    (subst (λ ps. Searched m (map pattern_meant ps) (option_map bound o)) c.as_slice.ensures c.find_match.ensures.matched)
+    (subst (λ ps. Searched m (map pattern_meant ps) (option_map bound o)) c.as_slice.ensures.value c.find_match.ensures.matched)
