@@ -5,7 +5,8 @@ use shelves::record::Record;
 
 mod takes;
 
-/// A shelf over records that the caller lends: the first `used` hold its atoms.
+/// A shelf over records that the caller lends: the first `used` hold its atoms. A slice and a length, since it may not
+/// own memory.
 #[derive(Drop)]
 pub struct FlatShelf<'a> {
     records: &'a mut [Record],

@@ -1,5 +1,5 @@
 -- One list on another, cut at m.
-use Rattle.std.proofs.Common.{◌≡◌, ℕ, zero, suc, ◌+◌, ◌-◌, ◌<◌, ◌≤◌, List, [], ◌∷◌, ◌++◌, map, length, take, refl, Bool, true, false, Decides, sym, ap, ◌∙◌, inl, inr, arith, append_assoc}
+use Rattle.std.proofs.Common.{◌≡◌, ℕ, zero, suc, ◌+◌, ◌-◌, ◌<◌, ◌≤◌, List, [], ◌∷◌, ◌++◌, map, length, take, refl, Bool, true, false, Option, Decides, sym, ap, ◌∙◌, inl, inr, arith, append_assoc}
 use Rattle.std.specs.List.{slice_get, Contains}
 use Rattle.std.proofs.lemmas.Bool.{true≢false}
 use Rattle.std.proofs.lemmas.List.Elements.{Contains-append_left, Contains-append_right, Contains-append_cases}
@@ -11,17 +11,24 @@ use Rattle.atoms.specs.declared.atom.Atom.{Atom}
 use Rattle.terms.specs.declared.term.Term.{Term}
 
 module _ {X : Type 0} where
-  pub slice_get_left : (xs ys : List X) (i : ℕ) → i < length xs → slice_get (xs ++ ys) i ≡ slice_get xs i
+  slice_get_left : (xs ys : List X) (i : ℕ) → i < length xs → slice_get (xs ++ ys) i ≡ slice_get xs i
   slice_get_left [] ys i h = absurd (omega arith)
   slice_get_left (x ∷ xs) ys zero h = refl
   slice_get_left (x ∷ xs) ys (suc i) h = slice_get_left xs ys i (omega arith)
 
-  pub slice_get_right : (xs ys : List X) (i : ℕ) → length xs ≤ i → slice_get (xs ++ ys) i ≡ slice_get ys (i - length xs)
+  slice_get_right : (xs ys : List X) (i : ℕ) → length xs ≤ i → slice_get (xs ++ ys) i ≡ slice_get ys (i - length xs)
   slice_get_right [] ys i h = let e : i - 0 ≡ i = omega arith in rw e refl
   slice_get_right (x ∷ xs) ys zero h = absurd (omega arith)
   slice_get_right (x ∷ xs) ys (suc i) h =
       let e : suc i - length (x ∷ xs) ≡ i - length xs = omega arith in
       rw e (slice_get_right xs ys i (omega arith))
+
+  pub get_left : (xs ys zs : List X) (i : ℕ) (r : Option X) → zs ≡ xs ++ ys → i < length xs → r ≡ slice_get xs i → r ≡ slice_get zs i
+  get_left xs ys zs i r e h q = q ∙ sym (slice_get_left xs ys i h) ∙ ap (λ l. slice_get l i) (sym e)
+
+  pub get_right : (xs ys zs : List X) (i n : ℕ) (r : Option X) → zs ≡ xs ++ ys → n ≡ length xs → length xs ≤ i → r ≡ slice_get ys (i - n) → r ≡ slice_get zs i
+  get_right xs ys zs i n r e l h q =
+      q ∙ ap (λ k. slice_get ys (i - k)) l ∙ sym (slice_get_right xs ys i h) ∙ ap (λ l. slice_get l i) (sym e)
 
   pub has_below : (xs ys zs : List X) (x : X) (r : Bool) → zs ≡ xs ++ ys → Decides r (Contains xs x) → r ≡ true → Decides r (Contains zs x)
   has_below xs ys zs x r e d t = rw e (λ _. Contains-append_left xs ys x (d.0 t), λ _. t)

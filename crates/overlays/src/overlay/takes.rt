@@ -64,7 +64,6 @@ impl<S: Shelf> Stock for Overlay<S> {
         self.below.len() + self.seen().len()
     }
 
-    #[tactic(auto, using(crate::proofs::Stacks::slice_get_left, crate::proofs::Stacks::slice_get_right))]
     fn get(&self, place: usize) -> Option<GroundAtom> {
         let own = self.seen();
         if place < self.below.len() {
