@@ -42,12 +42,8 @@ impl Declarations {
         if self.items.is_full() {
             return Err(Refusal::NoPredicateLeft);
         }
-        match Arity::new(arity) {
-            Some(arity) => {
-                self.items.push(arity);
-                Ok(self.items.len())
-            }
-            None => Err(Refusal::ArityOutOfRange { arity }),
-        }
+        let arity = Arity::new(arity).ok_or(Refusal::ArityOutOfRange { arity })?;
+        self.items.push(arity);
+        Ok(self.items.len())
     }
 }
