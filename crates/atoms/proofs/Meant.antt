@@ -4,7 +4,7 @@ use Rattle.semantics.specs.Subject as subject
 use Rattle.terms.specs.Meaning.{term_meant}
 use Rattle.terms.specs.declared.term.Term.{Term}
 use Rattle.terms.proofs.Meant.{same_meant}
-use Rattle.terms.specs.Same.{same_predicate}
+use Rattle.terms.specs.Same.{same_up_to}
 use Rattle.atoms.specs.Meaning.{atom_meant}
 use Rattle.atoms.specs.declared.atom.Atom.{Atom}
 
@@ -24,6 +24,6 @@ same_terms (x ∷ xs) (y ∷ ys) e = λ i. same_meant x y (ap (head (term_meant 
 
 pub same_atom : (a b : Atom Term) → atom_meant a ≡ atom_meant b → a ≡ b
 same_atom a b e = λ i. record {
-  predicate = same_predicate a.predicate b.predicate (ap (λ (x : subject.Atom). x.pred) e) i;
+  predicate = same_up_to a.predicate b.predicate (ap (λ (x : subject.Atom). x.pred) e) i;
   terms = same_terms a.terms b.terms (ap (λ (x : subject.Atom). x.terms) e) i;
 }

@@ -2,10 +2,10 @@
 use Rattle.std.specs.Prelude.{◌≡◌, ℕ, suc, ◌≤◌, List, [], ◌∷◌, ◌++◌, map, length, Ok, Err, Result, ◌≢◌}
 use Rattle.refusals.specs.Refusals.{Is}
 use Rattle.refusals.specs.declared.refusal.Refusal.{Refusal}
-use Rattle.declarations.specs.declared.arity.Arity.{Arity}
+use Rattle.terms.specs.declared.predicate.UpTo.{UpTo}
 use Rattle.declarations.specs.declared.declarations.Declarations.{Declarations}
 
-abbrev pub arity_value : Arity → ℕ
+abbrev pub arity_value : UpTo 4 → ℕ
 arity_value a = a.number
 
 -- the arities of predicates 1, 2, ..

@@ -1,5 +1,6 @@
 //! The personnel catalogue: predicates, rules, a constraint and queries.
 //! 1 employee, 2 manager, 3 directs, 4 supervises, 5 works in, and 6, which splits the head with three atoms.
+//! The other example has a catalogue of its own, since it wants other entries, and a library for both would promise nothing.
 use book::draft::Draft;
 use reading::raw::{RawAtom, RawTerm};
 use refusals::refusal::Refusal;

@@ -49,6 +49,7 @@ fn find_from<S: Stock>(stock: &S, patterns: &[Pattern], binding: Binding) -> Opt
         return Some(binding);
     };
     let again = slots_reach(binding, first.terms.as_slice(), later);
+    // A `find_map` could not end here and go on there: what was found ends the loop only where it counts.
     for place in 0..stock.len() {
         if let Some(atom) = stock.get(place) {
             if let Some(more) = fit(binding, first, &atom) {

@@ -51,6 +51,7 @@ pub fn fit_places<S: Stock>(
         });
     }
     let mut binding = unbound();
+    // The index is the figure of the refusal and names the place; a zip would only add a second pair.
     for (index, pattern) in patterns.iter().enumerate() {
         binding = fit_at(stock, binding, index, pattern, places[index])?;
     }

@@ -7,7 +7,7 @@ ghost use Rattle.terms.specs.Meaning.{term_meant};
 use atoms::atom::GroundAtom;
 use terms::term::Term;
 
-/// How many slots there are: a prime, so that few atoms of a regular catalogue share one.
+/// An array of marks and no set, since an opening may not want for memory. How many slots there are: a prime, so that few atoms of a regular catalogue share one.
 pub(crate) const SLOTS: usize = 65521;
 
 /// The number that the term stands for.

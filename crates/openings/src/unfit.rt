@@ -37,6 +37,7 @@ fn first_with<S: Stock>(stock: &S, book: &Book, seen: &mut [bool]) -> Option<usi
     requires { length seen.old ≡ 65521 }
     ensures { FirstUnfit (predicates_of book.now) (pile (S.Stock.list stock.now)) result }
 {
+    // A closure that marks while it looks would leave the proof without what it marked.
     for place in 0..stock.len() {
         if let Some(atom) = stock.get(place) {
             if is_unfit(stock, book, seen, place, &atom) {

@@ -18,6 +18,7 @@ use steps::side::first_missing;
 fn head_there<S: Stock>(stock: &S, head: &Pattern, mut binding: Binding) -> bool
     ensures { Decides result (HeadThere (pile (S.Stock.list stock.now)) (pattern_meant head.now) (bound binding)) }
 {
+    // The guard of the trial puts the binding back; a closure that lends it would leave the proof without that.
     for place in 0..stock.len() {
         if let Some(atom) = stock.get(place) {
             if head_fits(head, &atom, &mut binding) {

@@ -1,13 +1,13 @@
 -- What a blank record holds.
 use Rattle.std.proofs.Common.{lit≤, [], ◌∷◌}
 use Rattle.atoms.specs.declared.atom.Atom.{Atom}
-use Rattle.terms.specs.declared.predicate.Predicate.{Predicate}
+use Rattle.terms.specs.declared.predicate.UpTo.{UpTo}
 use Rattle.terms.specs.declared.constant.Constant as con
 use Rattle.terms.specs.declared.term.Term.{Term}
 use Rattle.terms.specs.declared.term.Term.TheVariants.{Constant}
 
 -- predicate 1
-abbrev pub first_predicate : Predicate
+abbrev pub first_predicate : UpTo 64
 first_predicate = record { number = 1; low = lit≤ tt; high = lit≤ tt }
 
 -- constant 1

@@ -25,6 +25,7 @@ pub(crate) fn stands<S: Stock>(stock: &S, binding: Binding, pattern: &Pattern) -
 pub fn first_missing<S: Stock>(stock: &S, binding: Binding, patterns: &[Pattern]) -> Option<usize>
     ensures { FirstMissing (pile (S.Stock.list stock.now)) (bound binding) (patterns_meant patterns.now) result }
 {
+    // The index is the figure of the refusal, so the loop stands as the rules word it.
     for (index, pattern) in patterns.iter().enumerate() {
         if !stands(stock, binding, pattern) {
             return Some(index);

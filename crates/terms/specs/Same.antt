@@ -6,7 +6,7 @@ use native.Mathlib.Bridge.{le_prop}
 use Rattle.terms.specs.declared.constant.Constant.{Constant}
 use Rattle.terms.specs.declared.null.Null.{Null}
 use Rattle.terms.specs.declared.variable.Variable.{Variable}
-use Rattle.terms.specs.declared.predicate.Predicate.{Predicate}
+use Rattle.terms.specs.declared.predicate.UpTo.{UpTo}
 use Rattle.terms.specs.declared.term.Term.{Term}
 use Rattle.terms.specs.declared.term.Term.TheVariants as ground_term
 use Rattle.terms.specs.declared.pattern_term.PatternTerm.{PatternTerm}
@@ -31,11 +31,11 @@ same_variable a b e = λ i. record {
   high = is_prop→PathP (λ k. e k ≤ 7) (λ k. le_prop) a.high b.high i;
 }
 
-pub same_predicate : (a b : Predicate) → a.number ≡ b.number → a ≡ b
-same_predicate a b e = λ i. record {
+pub same_up_to : {MOST : ℕ} (a b : UpTo MOST) → a.number ≡ b.number → a ≡ b
+same_up_to {MOST = MOST} a b e = λ i. record {
   number = e i;
   low = is_prop→PathP (λ k. 1 ≤ e k) (λ k. le_prop) a.low b.low i;
-  high = is_prop→PathP (λ k. e k ≤ 64) (λ k. le_prop) a.high b.high i;
+  high = is_prop→PathP (λ k. e k ≤ MOST) (λ k. le_prop) a.high b.high i;
 }
 
 -- where equal numbers make two values the same, comparing the numbers decides it
@@ -51,8 +51,8 @@ null_exact = by_number (λ (k : Null). k.number) same_null
 pub variable_exact : (v w : Variable) → Decides (v.index == w.index) (v ≡ w)
 variable_exact = by_number (λ (v : Variable). v.index) same_variable
 
-pub predicate_exact : (p q : Predicate) → Decides (p.number == q.number) (p ≡ q)
-predicate_exact = by_number (λ (p : Predicate). p.number) same_predicate
+pub up_to_exact : {MOST : ℕ} (p q : UpTo MOST) → Decides (p.number == q.number) (p ≡ q)
+up_to_exact {MOST = MOST} = by_number (λ (p : UpTo MOST). p.number) same_up_to
 
 -- a test of terms that is true of those of one sort with one number decides whether they are the same
 pub term_exact : (E : Term → Term → Bool) → ((c d : Constant) → E (ground_term.Constant c) (ground_term.Constant d) ≡ (c.number == d.number)) → ((c : Constant) (k : Null) → E (ground_term.Constant c) (ground_term.Null k) ≡ false) → ((k : Null) (c : Constant) → E (ground_term.Null k) (ground_term.Constant c) ≡ false) → ((k j : Null) → E (ground_term.Null k) (ground_term.Null j) ≡ (k.number == j.number)) → (t u : Term) → Decides (E t u) (t ≡ u)

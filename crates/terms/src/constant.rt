@@ -1,7 +1,8 @@
 //! Constants.
 ghost use Rattle.std.specs.Prelude.{◌≡◌, ◌≤◌, MatchOption};
 
-/// A constant: a number from 1 to 999,999.
+/// A constant: a number from 1 to 999,999. It shares no generic type with nulls and variables: each sort is a struct of its
+/// own, so that a fact can never receive another.
 #[derive(Clone, Copy, PartialEq, Eq, Debug)]
 pub struct Constant {
     number: u32,

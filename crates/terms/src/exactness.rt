@@ -1,11 +1,11 @@
 //! The equality of terms and predicates tells any two apart.
-ghost use Rattle.terms.specs.Same.{constant_exact, null_exact, pattern_term_exact, predicate_exact, term_exact, variable_exact};
+ghost use Rattle.terms.specs.Same.{constant_exact, null_exact, pattern_term_exact, up_to_exact, term_exact, variable_exact};
 ghost use Rattle.std.specs.Prelude.{refl};
 
 use crate::constant::Constant;
 use crate::null::Null;
 use crate::pattern_term::PatternTerm;
-use crate::predicate::Predicate;
+use crate::predicate::UpTo;
 use crate::term::Term;
 use crate::variable::Variable;
 use exact::equality::ExactEq;
@@ -18,8 +18,8 @@ impl ExactEq for Null {
     ghost exact = { null_exact };
 }
 
-impl ExactEq for Predicate {
-    ghost exact = { predicate_exact };
+impl<const MOST: usize> ExactEq for UpTo<MOST> {
+    ghost exact = { up_to_exact };
 }
 
 impl ExactEq for Variable {

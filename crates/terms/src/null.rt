@@ -1,7 +1,8 @@
 //! Nulls.
 ghost use Rattle.std.specs.Prelude.{◌≡◌, ◌≤◌, MatchOption};
 
-/// A null: with a number k from 0 to 999,999 it is the thing numbered 1,000,000 + k.
+/// A null: with a number k from 0 to 999,999 it is the thing numbered 1,000,000 + k. A struct of its own, as each
+/// sort of term is.
 #[derive(Clone, Copy, PartialEq, Eq, Debug)]
 pub struct Null {
     number: u32,

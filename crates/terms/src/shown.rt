@@ -5,7 +5,7 @@ ghost use Rattle.terms.specs.Shown.{pattern_term_shown, term_shown};
 use crate::constant::Constant;
 use crate::null::Null;
 use crate::pattern_term::PatternTerm;
-use crate::predicate::Predicate;
+use crate::predicate::UpTo;
 use crate::term::Term;
 use crate::variable::Variable;
 use std::fmt;
@@ -34,7 +34,7 @@ impl fmt::Display for Variable {
     }
 }
 
-impl fmt::Display for Predicate {
+impl<const MOST: usize> fmt::Display for UpTo<MOST> {
     ghost output = { λ p. Some (decimal p.number) };
 
     fn fmt<W: fmt::Write>(&self, f: &mut fmt::Formatter<W>) -> fmt::Result {

@@ -1,7 +1,7 @@
 //! Variables.
 ghost use Rattle.std.specs.Prelude.{◌≡◌, ◌+◌, ◌≤◌, MatchOption};
 
-/// One of the variables v1 to v8, by its index from 0.
+/// One of the variables v1 to v8, by its index from 0. A struct of its own, as each sort of term is.
 #[derive(Clone, Copy, PartialEq, Eq, Debug)]
 pub struct Variable {
     index: u8,
