@@ -2,21 +2,22 @@
 use calls::answer::Verdict;
 use calls::event::Event;
 use refusals::refusal::Refusal;
-use shelves::taken::Taken;
+use std::fmt;
+use std::fmt::Display;
 
 /// Prints a call's number and its answer.
 pub(crate) fn show_event(rt: &HostRuntime, number: usize, event: Event) -> anyhow::Result<()> {
     match event {
-        Event::Lodge(_, answer) => show_taken(rt, number, "lodge", answer),
-        Event::OpenDerivation(_, answer) => show_done(rt, number, "open derivation", answer),
-        Event::OpenModel(_, answer) => show_done(rt, number, "open model", answer),
-        Event::Step { answer, .. } => show_taken(rt, number, "step", answer),
-        Event::Add { answer, .. } => show_taken(rt, number, "add", answer),
-        Event::Claim { answer, .. } => show_verdict(rt, number, "claim", answer),
-        Event::Clash { answer, .. } => show_verdict(rt, number, "clash", answer),
-        Event::Refute { answer, .. } => show_verdict(rt, number, "refute", answer),
-        Event::StrikeDerivation { answer, .. } => show_done(rt, number, "strike", answer),
-        Event::StrikeModel { answer, .. } => show_done(rt, number, "strike", answer),
+        Event::Lodge(_, answer) => show(rt, number, "lodge", answer),
+        Event::OpenDerivation(_, answer) => show(rt, number, "open derivation", done(answer)),
+        Event::OpenModel(_, answer) => show(rt, number, "open model", done(answer)),
+        Event::Step { answer, .. } => show(rt, number, "step", answer),
+        Event::Add { answer, .. } => show(rt, number, "add", answer),
+        Event::Claim { answer, .. } => show(rt, number, "claim", answer.map(Found)),
+        Event::Clash { answer, .. } => show(rt, number, "clash", answer.map(Found)),
+        Event::Refute { answer, .. } => show(rt, number, "refute", answer.map(Found)),
+        Event::StrikeDerivation { answer, .. } => show(rt, number, "strike", done(answer)),
+        Event::StrikeModel { answer, .. } => show(rt, number, "strike", done(answer)),
         Event::NoSlip => {
             println!(rt; "{number} no slip in that slot")?;
             Ok(())
@@ -24,67 +25,32 @@ pub(crate) fn show_event(rt: &HostRuntime, number: usize, event: Event) -> anyho
     }
 }
 
-fn show_taken(
+fn show<T: Display + Drop>(
     rt: &HostRuntime,
     number: usize,
     call: &str,
-    answer: Result<Taken, Refusal>,
+    answer: Result<T, Refusal>,
 ) -> anyhow::Result<()> {
-    print!(rt; "{number} {call}: ")?;
     match answer {
-        Ok(Taken::Already) => println!(rt; "already")?,
-        Ok(Taken::At(place)) => println!(rt; "at {place}")?,
-        Err(refusal) => show_number(rt, refusal)?,
+        Ok(value) => println!(rt; "{number} {call}: {value}")?,
+        Err(refusal) => println!(rt; "{number} {call}: {refusal}")?,
     }
     Ok(())
 }
 
-fn show_done(
-    rt: &HostRuntime,
-    number: usize,
-    call: &str,
-    answer: Result<(), Refusal>,
-) -> anyhow::Result<()> {
-    print!(rt; "{number} {call}: ")?;
-    match answer {
-        Ok(()) => println!(rt; "done")?,
-        Err(refusal) => show_number(rt, refusal)?,
-    }
-    Ok(())
+fn done(answer: Result<(), Refusal>) -> Result<&'static str, Refusal> {
+    answer.map(|()| "done")
 }
 
-fn show_verdict(
-    rt: &HostRuntime,
-    number: usize,
-    call: &str,
-    answer: Result<Verdict, Refusal>,
-) -> anyhow::Result<()> {
-    print!(rt; "{number} {call}: ")?;
-    match answer {
-        Ok(verdict) => show_finding(rt, verdict),
-        Err(refusal) => show_number(rt, refusal),
-    }
-}
+/// A verdict in the words of this program.
+#[derive(Clone, Copy)]
+struct Found(Verdict);
 
-fn show_finding(rt: &HostRuntime, verdict: Verdict) -> anyhow::Result<()> {
-    match verdict {
-        Verdict::Entailed {
-            query,
-            added,
-            nulls,
-        } => println!(rt; "entailed {query} {added} {nulls}")?,
-        Verdict::Inconsistent {
-            constraint,
-            added,
-            nulls,
-        } => println!(rt; "inconsistent {constraint} {added} {nulls}")?,
-        Verdict::NotEntailed { query, size } => println!(rt; "not entailed {query} {size}")?,
+impl Display for Found {
+    fn fmt<W: fmt::Write>(&self, f: &mut fmt::Formatter<W>) -> fmt::Result {
+        match self.0 {
+            Verdict::NotEntailed { query, size } => write!(f, "not entailed {query} {size}"),
+            verdict => write!(f, "{verdict}"),
+        }
     }
-    Ok(())
-}
-
-fn show_number(rt: &HostRuntime, refusal: Refusal) -> anyhow::Result<()> {
-    let (first, second) = refusal.figures();
-    println!(rt; "refused {} {first} {second}", refusal.number())?;
-    Ok(())
 }
