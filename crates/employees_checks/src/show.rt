@@ -3,33 +3,21 @@ use calls::answer::Verdict;
 use calls::event::Event;
 use refusals::refusal::Refusal;
 use std::fmt;
-
-/// A verdict, with "not entailed" as two words.
-#[derive(Clone, Copy)]
-struct Finding(Verdict);
-
-impl fmt::Display for Finding {
-    fn fmt<W: fmt::Write>(&self, f: &mut fmt::Formatter<W>) -> fmt::Result {
-        match self.0 {
-            Verdict::NotEntailed { query, size } => write!(f, "not entailed {query} {size}"),
-            verdict => verdict.fmt(f),
-        }
-    }
-}
+use std::fmt::Display;
 
 /// Prints a call's number and its answer.
 pub(crate) fn show_event(rt: &HostRuntime, number: usize, event: Event) -> anyhow::Result<()> {
     match event {
-        Event::Lodge(_, answer) => show_answer(rt, number, "lodge", answer),
-        Event::OpenDerivation(_, answer) => show_done(rt, number, "open derivation", answer),
-        Event::OpenModel(_, answer) => show_done(rt, number, "open model", answer),
-        Event::Step { answer, .. } => show_answer(rt, number, "step", answer),
-        Event::Add { answer, .. } => show_answer(rt, number, "add", answer),
-        Event::Claim { answer, .. } => show_verdict(rt, number, "claim", answer),
-        Event::Clash { answer, .. } => show_verdict(rt, number, "clash", answer),
-        Event::Refute { answer, .. } => show_verdict(rt, number, "refute", answer),
-        Event::StrikeDerivation { answer, .. } => show_done(rt, number, "strike", answer),
-        Event::StrikeModel { answer, .. } => show_done(rt, number, "strike", answer),
+        Event::Lodge(_, answer) => show(rt, number, "lodge", answer),
+        Event::OpenDerivation(_, answer) => show(rt, number, "open derivation", done(answer)),
+        Event::OpenModel(_, answer) => show(rt, number, "open model", done(answer)),
+        Event::Step { answer, .. } => show(rt, number, "step", answer),
+        Event::Add { answer, .. } => show(rt, number, "add", answer),
+        Event::Claim { answer, .. } => show(rt, number, "claim", answer.map(Found)),
+        Event::Clash { answer, .. } => show(rt, number, "clash", answer.map(Found)),
+        Event::Refute { answer, .. } => show(rt, number, "refute", answer.map(Found)),
+        Event::StrikeDerivation { answer, .. } => show(rt, number, "strike", done(answer)),
+        Event::StrikeModel { answer, .. } => show(rt, number, "strike", done(answer)),
         Event::NoSlip => {
             println!(rt; "{number} no slip in that slot")?;
             Ok(())
@@ -37,33 +25,32 @@ pub(crate) fn show_event(rt: &HostRuntime, number: usize, event: Event) -> anyho
     }
 }
 
-fn show_answer<T: fmt::Display + Drop>(
+fn show<T: Display + Drop>(
     rt: &HostRuntime,
     number: usize,
     call: &str,
     answer: Result<T, Refusal>,
 ) -> anyhow::Result<()> {
     match answer {
-        Ok(given) => println!(rt; "{number} {call}: {given}")?,
+        Ok(value) => println!(rt; "{number} {call}: {value}")?,
         Err(refusal) => println!(rt; "{number} {call}: {refusal}")?,
     }
     Ok(())
 }
 
-fn show_done(
-    rt: &HostRuntime,
-    number: usize,
-    call: &str,
-    answer: Result<(), Refusal>,
-) -> anyhow::Result<()> {
-    show_answer(rt, number, call, answer.map(|()| "done"))
+fn done(answer: Result<(), Refusal>) -> Result<&'static str, Refusal> {
+    answer.map(|()| "done")
 }
 
-fn show_verdict(
-    rt: &HostRuntime,
-    number: usize,
-    call: &str,
-    answer: Result<Verdict, Refusal>,
-) -> anyhow::Result<()> {
-    show_answer(rt, number, call, answer.map(|verdict| Finding(verdict)))
+/// A verdict in the words of this program.
+#[derive(Clone, Copy)]
+struct Found(Verdict);
+
+impl Display for Found {
+    fn fmt<W: fmt::Write>(&self, f: &mut fmt::Formatter<W>) -> fmt::Result {
+        match self.0 {
+            Verdict::NotEntailed { query, size } => write!(f, "not entailed {query} {size}"),
+            verdict => write!(f, "{verdict}"),
+        }
+    }
 }

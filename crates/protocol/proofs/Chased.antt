@@ -6,9 +6,6 @@ use Rattle.semantics.specs.Subject.{Atom, Pattern, Rule, On, numbered}
 use Rattle.semantics.proofs.Fitting.{some_is, none_some}
 use Rattle.chase.specs.Chase as chase
 use Rattle.chase.specs.Chase.{start, step, fresh, put_head, is_full, stands, already}
-use Rattle.chase.specs.Law.{Used}
-use Rattle.chase.proofs.Laws.{steps_exact}
-use Rattle.chase.proofs.Numbers.{numbered_same}
 use Rattle.chase.proofs.Piles.{stands_on, on_stands}
 use Rattle.refusals.specs.declared.refusal.Refusal.{Refusal}
 use Rattle.book.specs.Theory.{rules_of, queries_of}
@@ -22,11 +19,11 @@ use Rattle.calls.specs.declared.answer.Check.TheVariants.{Derivation}
 use Rattle.calls.specs.declared.event.Event.{Event}
 use Rattle.calls.specs.declared.event.Event.TheVariants.{Lodge, OpenDerivation, OpenModel, Step, Add, Claim, Clash, Refute, StrikeDerivation, StrikeModel, NoSlip}
 use Rattle.protocol.specs.States.{State, opened, OwnDerivation}
-use Rattle.protocol.specs.Calls.{Yields, Shown, Stepped, NotStepped, foreign_step, no_rule, not_fired, overfull, Claimed, NotClaimed, foreign_claim, unshown_query}
+use Rattle.protocol.specs.Calls.{Shown, Stepped, NotStepped, foreign_step, no_rule, not_fired, overfull, Claimed, NotClaimed, foreign_claim, unshown_query}
 use Rattle.protocol.specs.Runs.{Did, Ran, Met, held}
 use Rattle.protocol.specs.ChaseOf.{chase_of}
 use Rattle.protocol.specs.Law.{Entry, Gives, Breaks, Overfills, Chases, fed_by, feeds, ends, Within, Takes}
-use Rattle.protocol.proofs.Plain.{chases_run, stepped_advances}
+use Rattle.protocol.proofs.Plain.{given, gives_of, chases_run, stepped_advances}
 use Rattle.protocol.proofs.Keeping.{not_shut, not_model, kept_met, met_before, split}
 use Rattle.protocol.proofs.Refusing.{not_fired_breaks, unshown}
 
@@ -149,15 +146,6 @@ standing book number facts es s met q before inside e w =
 
 -- every use of rule k at the place gives the same head, so where one stands on the pile each does
 module _ (rules : List Rule) (s : chase.State) (k place : ℕ) where
-  abbrev used : (a : Atom) (n : ℕ) → Gives rules s k place a n → Used rules s k place
-  used a n g = record { rule = g.rule; named = numbered_same rules k ∙ g.named_rule; by = g.by; fires = g.fires }
-
-  put : (a : Atom) (n : ℕ) → Gives rules s k place a n → step rules s k place ≡ put_head s a n (stands s.pile a) (is_full s)
-  put a n g =
-      (steps_exact rules s k place).0 (used a n g)
-      ∙ ap (λ (x : Atom). put_head s x (fresh g.by s.nulls g.rule.head.slots).1 (stands s.pile x) (is_full s)) (sym g.bears.0)
-      ∙ ap (λ (x : ℕ). put_head s a x (stands s.pile a) (is_full s)) (sym g.bears.1)
-
   not_already : (a : Atom) (n : ℕ) (full : Bool) → put_head s a n false full ≡ already → ⊥
   not_already a n true e = let z : ◌≡◌ {A = ℕ} 0 1 = cc in omega arith
   not_already a n false e = let z : ◌≡◌ {A = ℕ} 0 1 = cc in omega arith
@@ -166,15 +154,11 @@ module _ (rules : List Rule) (s : chase.State) (k place : ℕ) where
   one_head a c n m g on h = go (stands s.pile c) refl
     where
       stood : step rules s k place ≡ already
-      stood = put a n g ∙ ap (λ (w : Bool). put_head s a n w (is_full s)) (on_stands s.pile a on.0 on.1)
+      stood = given rules s k place a n g ∙ ap (λ (w : Bool). put_head s a n w (is_full s)) (on_stands s.pile a on.0 on.1)
 
       go : (w : Bool) → stands s.pile c ≡ w → On s.pile c
       go true e = stands_on s.pile c e
-      go false e = absurd (not_already c m (is_full s) (ap (λ (w : Bool). put_head s c m w (is_full s)) (sym e) ∙ sym (put c m h) ∙ stood))
-
--- a rule that may be used gives the same to the state and to its chase
-yields_gives : (s : State) (k place : ℕ) (a : Atom) (n : ℕ) → Yields s k place a n → Gives (rules_of s.book) (chase_of s) k place a n
-yields_gives s k place a n y = record { rule = y.rule; named_rule = y.named_rule; by = y.by; fires = y.fires; bears = y.bears }
+      go false e = absurd (not_already c m (is_full s) (ap (λ (w : Bool). put_head s c m w (is_full s)) (sym e) ∙ sym (given rules s k place c m h) ∙ stood))
 
 -- what an answer to a step says of the chase
 abbrev StepSays : List Rule → chase.State → ℕ → ℕ → Result Taken Refusal → Type 0
@@ -186,21 +170,21 @@ step_refused s n q k place e own (foreign_step is foreign) = absurd (foreign q o
 step_refused s n q k place e own (no_rule q' is own' none) = inl (λ a m g. none_some (sym none ∙ g.named_rule))
 step_refused s n q k place e own (not_fired q' rule own' at not) =
     inl (λ a m g. not_fired_breaks s.pile rule place e not g.by (rw (some_is (sym at ∙ g.named_rule)) g.fires))
-step_refused s n q k place e own (overfull q' a m is own' y new full) = inr (a, m, yields_gives s k place a m y, new, full)
+step_refused s n q k place e own (overfull q' a m is own' y new full) = inr (a, m, gives_of s k place a m y, new, full)
 
 -- and every answer to a step under an own slip says so
 step_says : (s t : State) (n q k place : ℕ) (r : Result Taken Refusal) → OwnDerivation s n q → Stepped s n k place r t → StepSays (rules_of s.book) (chase_of s) k place r
 step_says s t n q k place (Err e) own h = (λ f. step_refused s n q k place e own h.0, λ b. refl, λ x is. let z : ◌≡◌ {A = ℕ} 0 1 = cc in absurd (omega arith))
 step_says s t n q k place (Ok Already) own h =
     let rules = rules_of s.book in
-    let g = yields_gives s k place h.1 h.2 h.4 in (
+    let g = gives_of s k place h.1 h.2 h.4 in (
       no_both,
       λ b. elim b [ inl breaks ↦ absurd (breaks h.1 h.2 g) | inr over ↦ absurd (over.3 (one_head rules (chase_of s) k place h.1 over.0 h.2 over.1 g h.5 over.2)) ],
       λ x is. let e : Already ≡ x = cc in subst (Takes rules (chase_of s) k place) e (h.1, h.2, g, h.5),
     )
 step_says s t n q k place (Ok (At p)) own h =
     let rules = rules_of s.book in
-    let g = yields_gives s k place h.1 h.2 h.4 in (
+    let g = gives_of s k place h.1 h.2 h.4 in (
       no_both,
       λ b. elim b [ inl breaks ↦ absurd (breaks h.1 h.2 g) | inr over ↦ absurd (h.6 over.4) ],
       λ x is. let e : At p ≡ x = cc in subst (Takes rules (chase_of s) k place) e (h.1, h.2, g, h.5, h.7),

@@ -1,8 +1,8 @@
 -- The plain chase as a relation and as a computation, and steps of a checker as steps of it.
-use Rattle.std.proofs.Common.{◌≡◌, ℕ, suc, ◌+◌, ◌≤◌, Bool, true, false, ◌||◌, leb, ◌⊎◌, List, [], ◌∷◌, ◌++◌, length, Some, Ok, Err, Result, sym, refl, ap, ◌∙◌, subst, inl, inr, add-one}
+use Rattle.std.proofs.Common.{◌≡◌, ℕ, ◌≤◌, Bool, true, false, ◌||◌, leb, ◌⊎◌, List, [], ◌∷◌, ◌++◌, length, Ok, Err, Result, sym, refl, ap, ◌∙◌, subst, inl, inr, add-one}
 use mathlib.Core.Bool.{or-true}
 use Rattle.std.proofs.lemmas.Bool.{both_ways, leb-true, le-leb, or_cases}
-use Rattle.semantics.specs.Subject.{Atom, Rule, On, numbered}
+use Rattle.semantics.specs.Subject.{Atom, Rule, On}
 use Rattle.semantics.proofs.Fitting.{some_is, none_some}
 use Rattle.chase.specs.Chase as chase
 use Rattle.chase.specs.Chase.{put_head, is_full, moved, step, fresh}
@@ -11,7 +11,6 @@ use Rattle.chase.specs.Law.{Used, is_broken}
 use Rattle.chase.proofs.Laws.{steps_exact}
 use Rattle.chase.proofs.Numbers.{numbered_same}
 use Rattle.chase.proofs.Piles.{stands_on, on_stands}
-use Rattle.semantics.specs.Computed.{atom_of}
 use Rattle.refusals.specs.declared.refusal.Refusal.{Refusal}
 use Rattle.book.specs.Theory.{rules_of}
 use Rattle.shelves.specs.declared.taken.Taken.{Taken}
@@ -19,7 +18,7 @@ use Rattle.shelves.specs.declared.taken.Taken.TheVariants.{Already, At}
 use Rattle.protocol.specs.States.{State, OwnDerivation}
 use Rattle.protocol.specs.Calls.{Stepped, Yields, foreign_step, no_rule, not_fired, overfull}
 use Rattle.protocol.specs.ChaseOf.{chase_of}
-use Rattle.protocol.specs.Law.{Gives, Breaks, Overfills, Advances, Chases, breaks, overfills, stands, adds}
+use Rattle.protocol.specs.Law.{Gives, Breaks, Advances, Chases, breaks, overfills, stands, adds}
 use Rattle.protocol.proofs.Refusing.{not_fired_breaks}
 
 -- full, as a test
@@ -43,7 +42,7 @@ stands_not pile a new = go (chase.stands pile a) refl
 
 module _ (rules : List Rule) (s : chase.State) (k p : ℕ) where
   -- what the rule gives is what the computed step tries to put
-  given : (a : Atom) (n : ℕ) → Gives rules s k p a n → step rules s k p ≡ put_head s a n (chase.stands s.pile a) (is_full s)
+  pub given : (a : Atom) (n : ℕ) → Gives rules s k p a n → step rules s k p ≡ put_head s a n (chase.stands s.pile a) (is_full s)
   given a n g =
       let used : Used rules s k p = record { rule = g.rule; named = numbered_same rules k ∙ g.named_rule; by = g.by; fires = g.fires } in
       (steps_exact rules s k p).0 used ∙ (λ i. put_head s (sym g.bears.0 i) (sym g.bears.1 i) (chase.stands s.pile (sym g.bears.0 i)) (is_full s))
@@ -82,7 +81,8 @@ pub chases_more : (rules : List Rule) (s t u : chase.State) (xs : List (ℕ × �
 chases_more rules s t u [] k p h a = (u, subst (λ (m : chase.State). Advances rules m k p u) h a, refl)
 chases_more rules s t u (x ∷ xs) k p h a = (h.0, h.1, chases_more rules h.0 t u xs k p h.2 a)
 
-gives_of : (s : State) (k p : ℕ) (a : Atom) (n : ℕ) → Yields s k p a n → Gives (rules_of s.book) (chase_of s) k p a n
+-- a rule that may be used gives the same to the state and to its chase
+pub gives_of : (s : State) (k p : ℕ) (a : Atom) (n : ℕ) → Yields s k p a n → Gives (rules_of s.book) (chase_of s) k p a n
 gives_of s k p a n y = record { rule = y.rule; named_rule = y.named_rule; by = y.by; fires = y.fires; bears = y.bears }
 
 -- a step under the checker's own slip is a step of the plain chase

@@ -2,7 +2,7 @@
 use Rattle.std.proofs.Common.{◌≡◌, ℕ, zero, suc, List, [], ◌∷◌, length, take, Some, None, sym, refl, ap, ◌∙◌, subst}
 use Rattle.std.specs.List.{slice_get}
 use Rattle.semantics.specs.Subject.{Atom, Binding, Pattern, Rule, Fits, LeastFit, Fitted, Extends, Holds, On, Guards, AtPlaces}
-use Rattle.semantics.specs.Computed.{and_then, nothing, fit}
+use Rattle.semantics.specs.Computed.{and_then, nothing}
 use Rattle.semantics.proofs.Fitting.{some_is, none_some, fit_complete, fit_fitted}
 use Rattle.semantics.proofs.Guarding.{guard_only}
 use Rattle.chase.specs.Firing.{Fires}

@@ -1,5 +1,5 @@
 -- Each verdict is true of the facts held when it was given.
-use Rattle.std.proofs.Common.{◌≡◌, ℕ, true, List, [], ◌∷◌, ◌++◌, Some, None, Ok, Err, Result, sym, refl, ap, ◌∙◌, subst}
+use Rattle.std.proofs.Common.{◌≡◌, ℕ, List, [], ◌∷◌, ◌++◌, Some, None, Ok, Err, Result, sym, refl, ap, ◌∙◌, subst}
 use Rattle.std.specs.List.{slice_get}
 use Rattle.semantics.specs.Subject.{Atom, Binding, Pattern, Rule, Candidate, Model, HasMatch, Obeys, On, Fits}
 use Rattle.semantics.specs.Computed.{guard, nothing, fit}

@@ -1,5 +1,5 @@
 -- The law over runs holds of whatever a checker has met.
-use Rattle.std.proofs.Common.{◌≡◌, ℕ, Bool, true, List}
+use Rattle.std.proofs.Common.{◌≡◌, ℕ, true, List}
 use Rattle.semantics.specs.Subject.{Atom, Candidate}
 use Rattle.book.specs.declared.book.Book.{Book}
 use Rattle.calls.specs.declared.event.Event.{Event}

@@ -98,11 +98,9 @@ pub fn told(atom: Option<GroundAtom>) -> (usize, u32, u32) {
 }
 
 fn thing(term: Option<Term>) -> u32 {
-    let Some(term) = term else {
-        return 0;
-    };
     match term {
-        Term::Constant(constant) => constant.number(),
-        Term::Null(null) => 1000000 + null.number(),
+        None => 0,
+        Some(Term::Constant(constant)) => constant.number(),
+        Some(Term::Null(null)) => 1000000 + null.number(),
     }
 }

@@ -77,24 +77,24 @@ fn the_lowest_rule_and_place(rt: HostRuntime) -> Result<(), Fail> {
     let mut records = [Record::blank(); 2];
     let mut checker = Checker::new(book, FlatShelf::new(&mut records), 7);
     let _ = lodges(&mut checker, [one(1, k(17)), one(1, k(18))]);
-    let first = two(2, k(17), k(20));
-    let second = two(2, k(18), k(19));
-    let side = one(3, k(18));
-    let head = one(3, k(19));
+    let first = || two(2, k(17), k(20));
+    let second = || two(2, k(18), k(19));
+    let side = || one(3, k(18));
+    let head = || one(3, k(19));
     assert_eq!(rt;
-        counter(&mut checker, 2, &[second, side]),
+        counter(&mut checker, 2, &[second(), side()]),
         Said::Refused(17, 1, 0)
     );
     assert_eq!(rt;
-        counter(&mut checker, 2, &[first, side]),
+        counter(&mut checker, 2, &[first(), side()]),
         Said::Refused(17, 1, 1)
     );
     assert_eq!(rt;
-        counter(&mut checker, 2, &[first, second, side]),
+        counter(&mut checker, 2, &[first(), second(), side()]),
         Said::Refused(17, 2, 3)
     );
     assert_eq!(rt;
-        counter(&mut checker, 2, &[first, second, side, head]),
+        counter(&mut checker, 2, &[first(), second(), side(), head()]),
         not_entailed(2, 6)
     );
     Ok(())

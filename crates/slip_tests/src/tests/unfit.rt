@@ -31,6 +31,11 @@ fn single(predicate: usize, number: u32) -> Result<GroundAtom, Missing> {
     Ok(Atom { predicate, terms })
 }
 
+fn record(predicate: usize, number: u32) -> Result<Record, Missing> {
+    let atom = single(predicate, number)?;
+    Ok(Record { atom })
+}
+
 /// Predicate 2 with 17 and null 0.
 fn with_null() -> Result<GroundAtom, Missing> {
     let predicate = Predicate::new(2).ok_or(Missing)?;
@@ -62,17 +67,7 @@ fn no_atoms_of_the_book(rt: HostRuntime) -> Result<(), Fail> {
     let _ = shelf.put(single(2, 17)?);
     let mut checker = Checker::new(small_book(rt.alloc())?, shelf, 7);
     assert_eq!(rt; opens(&mut checker, 1), [Said::Refused(23, 0, 0); 2]);
-    let records = [
-        Record {
-            atom: single(3, 17)?,
-        },
-        Record {
-            atom: single(1, 17)?,
-        },
-        Record {
-            atom: single(2, 17)?,
-        },
-    ];
+    let records = [record(3, 17)?, record(1, 17)?, record(2, 17)?];
     let mut checker = Checker::new(small_book(rt.alloc())?, Fixed { records: &records }, 7);
     assert_eq!(rt; opens(&mut checker, 1), [Said::Refused(23, 2, 0); 2]);
     Ok(())
@@ -80,13 +75,12 @@ fn no_atoms_of_the_book(rt: HostRuntime) -> Result<(), Fail> {
 
 #[test]
 fn a_repeat_on_the_shelf(rt: HostRuntime) -> Result<(), Fail> {
-    let first = Record {
-        atom: single(1, 17)?,
-    };
-    let second = Record {
-        atom: single(1, 18)?,
-    };
-    let records = [first, second, first, second];
+    let records = [
+        record(1, 17)?,
+        record(1, 18)?,
+        record(1, 17)?,
+        record(1, 18)?,
+    ];
     let mut checker = Checker::new(small_book(rt.alloc())?, Fixed { records: &records }, 7);
     assert_eq!(rt; opens(&mut checker, 1), [Said::Refused(23, 2, 0); 2]);
     let mut checker = Checker::new(
