@@ -11,7 +11,7 @@ use flat_shelf::flat::FlatShelf;
 use personnel::{facts, unfit_entries, unfit_facts, write_down};
 use shelves::record::Record;
 use shelves::stock::Shelf;
-use show::{show_fact, show_query, show_refusal, show_rules};
+use show::{show_fact, show_query, show_rules};
 use terms::constant::Constant;
 
 fn main(rt: HostRuntime) -> anyhow::Result<()> {
@@ -31,6 +31,7 @@ fn run(rt: &HostRuntime) -> anyhow::Result<()> {
     let mut shelf = FlatShelf::new(&mut records);
     fill(rt, &book, &mut shelf)?;
     println!(rt; "queries")?;
+    // A book gives its queries by number.
     for number in 1..=book.queries() {
         show_query(rt, &book, &shelf, number)?;
     }
@@ -43,7 +44,7 @@ fn fill<S: Shelf>(rt: &HostRuntime, book: &Book, shelf: &mut S) -> anyhow::Resul
     for raw in facts() {
         match book.check::<Constant>(0, &raw) {
             Ok(fact) => show_fact(rt, &fact, shelf.put(fact.ground()))?,
-            Err(refusal) => show_refusal(rt, "fact", refusal)?,
+            Err(refusal) => println!(rt; "fact: {refusal}")?,
         }
     }
     println!(rt; "refused facts")?;

@@ -1,7 +1,10 @@
 //! The personnel catalogue: predicates, rules, queries and facts.
 //! 1 employee, 2 manager, 3 directs, 4 supervises, 5 works in, and 6, which splits the head with three atoms.
+<<<<<<< ours
 //! The other example has a catalogue of its own, since it wants other entries, and a library for both would promise nothing.
 use crate::show::show_refusal;
+=======
+>>>>>>> theirs
 use book::book::Book;
 use book::draft::Draft;
 use reading::raw::{RawAtom, RawTerm};
@@ -71,13 +74,13 @@ pub(crate) fn unfit_entries(rt: &HostRuntime, draft: &mut Draft) -> anyhow::Resu
     let second = RawAtom::new(4, &[V2, V3]);
     let head = RawAtom::new(4, &[V1, V3]);
     if let Err(refusal) = draft.rule(&[first, second], &head) {
-        show_refusal(rt, "rule 4 v1 v2,4 v2 v3;4 v1 v3", refusal)?;
+        println!(rt; "rule 4 v1 v2,4 v2 v3;4 v1 v3: {refusal}")?;
     }
     if let Err(refusal) = draft.query(&[RawAtom::new(7, &[V1])]) {
-        show_refusal(rt, "query 7 v1", refusal)?;
+        println!(rt; "query 7 v1: {refusal}")?;
     }
     if let Err(refusal) = draft.rule(&[RawAtom::new(2, &[V1])], &RawAtom::new(3, &[V1])) {
-        show_refusal(rt, "rule 2 v1;3 v1", refusal)?;
+        println!(rt; "rule 2 v1;3 v1: {refusal}")?;
     }
     Ok(())
 }
@@ -86,11 +89,11 @@ pub(crate) fn unfit_entries(rt: &HostRuntime, draft: &mut Draft) -> anyhow::Resu
 pub(crate) fn unfit_facts(rt: &HostRuntime, book: &Book) -> anyhow::Result<()> {
     let null = RawAtom::new(3, &[JO, RawTerm::Null(0)]);
     if let Err(refusal) = book.check::<terms::constant::Constant>(0, &null) {
-        show_refusal(rt, "fact 3 11 n0", refusal)?;
+        println!(rt; "fact 3 11 n0: {refusal}")?;
     }
     let short = RawAtom::new(3, &[JO]);
     if let Err(refusal) = book.check::<terms::constant::Constant>(0, &short) {
-        show_refusal(rt, "fact 3 11", refusal)?;
+        println!(rt; "fact 3 11: {refusal}")?;
     }
     Ok(())
 }

@@ -4,7 +4,6 @@ use book::book::Book;
 use fitting::binding::Binding;
 use fitting::instance::bound_atom;
 use matching::find::find_match;
-use refusals::refusal::Refusal;
 use shelves::stock::Stock;
 use shelves::taken::{Full, Taken};
 use std::fmt;
@@ -51,12 +50,6 @@ pub(crate) fn show_fact(
         Ok(taken) => println!(rt; "{fact} {taken}")?,
         Err(full) => println!(rt; "{fact} {full}")?,
     }
-    Ok(())
-}
-
-/// Prints what was refused, with the refusal's number and figures.
-pub(crate) fn show_refusal(rt: &HostRuntime, what: &str, refusal: Refusal) -> anyhow::Result<()> {
-    println!(rt; "{what}: {refusal}")?;
     Ok(())
 }
 

@@ -58,6 +58,7 @@ fn all_calls(heap: Global) -> Result<Vec<Call>, AllocError> {
 
 /// Spends what slips are left in the pool.
 fn strike_all<S: Shelf + Drop>(mut checker: Checker<S>, mut pool: Vec<Slot>) {
+    // A `for` asks that what it has not come to may be let go, and a slip may not.
     while let Some(slot) = pool.pop() {
         match slot {
             None => {}
