@@ -1,10 +1,6 @@
 //! The personnel catalogue: predicates, rules, queries and facts.
 //! 1 employee, 2 manager, 3 directs, 4 supervises, 5 works in, and 6, which splits the head with three atoms.
-<<<<<<< ours
 //! The other example has a catalogue of its own, since it wants other entries, and a library for both would promise nothing.
-use crate::show::show_refusal;
-=======
->>>>>>> theirs
 use book::book::Book;
 use book::draft::Draft;
 use reading::raw::{RawAtom, RawTerm};
