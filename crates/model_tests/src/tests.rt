@@ -36,17 +36,17 @@ fn personnel(heap: Global) -> Result<Book, Fail> {
 }
 
 fn write_rules(draft: &mut Draft) -> Result<(), Refusal> {
-    let employee = one(1, v(1));
-    let manager = one(2, v(1));
-    let directs = two(3, v(1), v(2));
-    let leads = three(6, v(1), v(2), v(3));
-    draft.rule(&[manager], &employee)?;
-    draft.rule(&[manager], &directs)?;
-    draft.rule(&[employee, directs], &leads)?;
-    draft.rule(&[leads], &manager)?;
-    draft.rule(&[leads], &two(4, v(1), v(3)))?;
-    draft.rule(&[leads], &two(5, v(3), v(2)))?;
-    draft.rule(&[employee, two(4, v(1), v(2)), one(2, v(2))], &manager)?;
+    let employee = || one(1, v(1));
+    let manager = || one(2, v(1));
+    let directs = || two(3, v(1), v(2));
+    let leads = || three(6, v(1), v(2), v(3));
+    draft.rule(&[manager()], &employee())?;
+    draft.rule(&[manager()], &directs())?;
+    draft.rule(&[employee(), directs()], &leads())?;
+    draft.rule(&[leads()], &manager())?;
+    draft.rule(&[leads()], &two(4, v(1), v(3)))?;
+    draft.rule(&[leads()], &two(5, v(3), v(2)))?;
+    draft.rule(&[employee(), two(4, v(1), v(2)), one(2, v(2))], &manager())?;
     Ok(())
 }
 

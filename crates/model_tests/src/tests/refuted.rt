@@ -125,22 +125,22 @@ fn tom_works_nowhere(rt: HostRuntime) -> Result<(), Fail> {
     let mut checker = Checker::new(book, FlatShelf::new(&mut records), 1);
     let _ = lodges(&mut checker, database());
     assert_eq!(rt; lodges(&mut checker, [one(2, ADA)]), [Said::At(7)]);
-    let directs = two(3, ADA, TOYS);
-    let supervises = two(4, ADA, TOM);
-    let leads = three(6, ADA, TOYS, TOM);
+    let directs = || two(3, ADA, TOYS);
+    let supervises = || two(4, ADA, TOM);
+    let leads = || three(6, ADA, TOYS, TOM);
     assert_eq!(rt;
-        counter(&mut checker, 3, &[directs, supervises]),
+        counter(&mut checker, 3, &[directs(), supervises()]),
         Said::Refused(17, 3, 8)
     );
     assert_eq!(rt;
-        counter(&mut checker, 3, &[directs, supervises, leads]),
+        counter(&mut checker, 3, &[directs(), supervises(), leads()]),
         Said::Refused(17, 6, 10)
     );
     assert_eq!(rt;
         counter(
             &mut checker,
             3,
-            &[directs, supervises, leads, two(5, TOM, TOYS)],
+            &[directs(), supervises(), leads(), two(5, TOM, TOYS)],
         ),
         not_entailed(3, 12)
     );

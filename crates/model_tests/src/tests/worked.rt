@@ -127,15 +127,15 @@ fn no_models(rt: HostRuntime) -> Result<(), Fail> {
     let mut checker = Checker::new(book, FlatShelf::new(&mut records), 1);
     let _ = lodges(&mut checker, six_facts());
     assert_eq!(rt; lodges(&mut checker, [one(2, ADA)]), [Said::At(6)]);
-    let leads = three(6, JO, FINANCE, ADA);
+    let leads = || three(6, JO, FINANCE, ADA);
     let said = counter(&mut checker, 3, &[]);
     assert_eq!(rt; said, Said::Refused(17, 2, 6));
-    let said = counter(&mut checker, 3, &[leads]);
+    let said = counter(&mut checker, 3, &[leads()]);
     assert_eq!(rt; said, Said::Refused(17, 2, 6));
     let said = counter(
         &mut checker,
         3,
-        &[two(3, ADA, TOYS), two(4, ADA, TOM), leads],
+        &[two(3, ADA, TOYS), two(4, ADA, TOM), leads()],
     );
     assert_eq!(rt; said, Said::Refused(17, 3, 7));
     Ok(())

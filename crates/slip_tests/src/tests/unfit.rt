@@ -83,13 +83,8 @@ fn a_repeat_on_the_shelf(rt: HostRuntime) -> Result<(), Fail> {
     ];
     let mut checker = Checker::new(small_book(rt.alloc())?, Fixed { records: &records }, 7);
     assert_eq!(rt; opens(&mut checker, 1), [Said::Refused(23, 2, 0); 2]);
-    let mut checker = Checker::new(
-        small_book(rt.alloc())?,
-        Fixed {
-            records: &records[0..2],
-        },
-        7,
-    );
+    let records = [record(1, 17)?, record(1, 18)?];
+    let mut checker = Checker::new(small_book(rt.alloc())?, Fixed { records: &records }, 7);
     assert_eq!(rt; opens(&mut checker, 1), [Said::Struck; 2]);
     Ok(())
 }
