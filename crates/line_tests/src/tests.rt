@@ -1,4 +1,4 @@
 //! The tests, by what they read or print.
 mod bundles;
-mod lines;
 mod printed;
+mod single;
