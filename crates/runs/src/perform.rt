@@ -1,4 +1,7 @@
 //! One call of a list after the other.
+//!
+//! Checker and pool stay two parameters: the caller lends the pool, the checker is made here and handed out, and a struct of
+//! the two would hold the one by reference and lengthen each clause.
 ghost use Rattle.std.specs.Prelude.{◌≡◌, ◌+◌, ◌<◌, ◌≤◌, length, vec_len, vec_capacity};
 ghost use Rattle.calls.specs.declared.call.Call.TheVariants.{Under};
 ghost use Rattle.runs.specs.Conducted.{Performed, Went, Stored};
