@@ -22,18 +22,17 @@ fn no_records(rt: HostRuntime) -> Result<(), Fail> {
 #[test]
 fn one_record(rt: HostRuntime) -> Result<(), Fail> {
     let a = atom(7)?;
-    let b = atom(8)?;
     let mut records = [Record::blank()];
     let mut shelf = FlatShelf::new(&mut records);
     assert_eq!(rt; shelf.len(), 0);
     assert_eq!(rt; shelf.free_count(), 1);
-    assert_eq!(rt; shelf.put(a), Ok(Taken::At(0)));
+    assert_eq!(rt; shelf.put(atom(7)?), Ok(Taken::At(0)));
     assert_eq!(rt; shelf.free_count(), 0);
-    assert_eq!(rt; shelf.put(b), Err(Full));
-    assert_eq!(rt; shelf.put(a), Ok(Taken::Already));
+    assert_eq!(rt; shelf.put(atom(8)?), Err(Full));
+    assert_eq!(rt; shelf.put(atom(7)?), Ok(Taken::Already));
     assert!(rt; shelf.get(0).ok_or(Missing)? == a);
     assert!(rt; shelf.get(1).is_none());
-    let records = shelf.into_records();
+    let records: &[Record] = shelf.into_records();
     assert!(rt; records.len() == 1);
     assert!(rt; records[0].atom == a);
     Ok(())

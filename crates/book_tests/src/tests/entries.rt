@@ -22,11 +22,14 @@ fn arities(rt: HostRuntime) -> Result<(), Fail> {
 #[test]
 fn predicates(rt: HostRuntime) -> Result<(), Fail> {
     let mut draft = start(&rt, rt.alloc())?;
-    let good = one(1, v(1));
-    assert_eq!(rt; answer(draft.query(&[good, one(9, v(1))])), (3, 1, 9));
+    let good = || one(1, v(1));
+    assert_eq!(rt; answer(draft.query(&[good(), one(9, v(1))])), (3, 1, 9));
     assert_eq!(rt; answer(draft.query(&[one(0, v(1))])), (3, 0, 0));
     assert_eq!(rt; answer(draft.query(&[one(65, v(9))])), (3, 0, 65));
-    assert_eq!(rt; answer(draft.rule(&[good, good], &one(4, v(1)))), (3, 2, 4));
+    assert_eq!(rt;
+        answer(draft.rule(&[good(), good()], &one(4, v(1)))),
+        (3, 2, 4)
+    );
     let book = draft.seal();
     assert_eq!(rt; book.rules() + book.constraints() + book.queries(), 0);
     Ok(())
@@ -35,9 +38,12 @@ fn predicates(rt: HostRuntime) -> Result<(), Fail> {
 #[test]
 fn numbers_of_terms(rt: HostRuntime) -> Result<(), Fail> {
     let mut draft = start(&rt, rt.alloc())?;
-    let good = one(1, v(1));
+    let good = || one(1, v(1));
     let five = [v(1), v(1), v(1), v(1), v(1)];
-    assert_eq!(rt; answer(draft.constraint(&[good, one(2, v(1))])), (4, 1, 1));
+    assert_eq!(rt;
+        answer(draft.constraint(&[good(), one(2, v(1))])),
+        (4, 1, 1)
+    );
     assert_eq!(rt;
         answer(draft.constraint(&[RawAtom::new(1, &[])])),
         (4, 0, 0)
@@ -47,7 +53,7 @@ fn numbers_of_terms(rt: HostRuntime) -> Result<(), Fail> {
         (4, 0, 5)
     );
     assert_eq!(rt; answer(draft.constraint(&[two(1, v(9), c(0))])), (4, 0, 2));
-    assert_eq!(rt; answer(draft.rule(&[good], &one(2, v(9)))), (4, 1, 1));
+    assert_eq!(rt; answer(draft.rule(&[good()], &one(2, v(9)))), (4, 1, 1));
     let book = draft.seal();
     assert_eq!(rt; book.rules() + book.constraints() + book.queries(), 0);
     Ok(())
@@ -56,19 +62,22 @@ fn numbers_of_terms(rt: HostRuntime) -> Result<(), Fail> {
 #[test]
 fn terms_out_of_range(rt: HostRuntime) -> Result<(), Fail> {
     let mut draft = start(&rt, rt.alloc())?;
-    let good = one(1, v(1));
+    let good = || one(1, v(1));
     assert_eq!(rt;
         answer(draft.query(&[two(2, v(1), RawTerm::Null(3))])),
         (5, 0, 1)
     );
-    assert_eq!(rt; answer(draft.query(&[good, one(1, v(9))])), (5, 1, 0));
+    assert_eq!(rt; answer(draft.query(&[good(), one(1, v(9))])), (5, 1, 0));
     assert_eq!(rt; answer(draft.query(&[one(1, v(0))])), (5, 0, 0));
     assert_eq!(rt; answer(draft.query(&[two(2, c(0), c(1000000))])), (5, 0, 0));
     assert_eq!(rt;
         answer(draft.query(&[two(2, c(999999), c(1000000))])),
         (5, 0, 1)
     );
-    assert_eq!(rt; answer(draft.rule(&[good, good], &one(1, v(9)))), (5, 2, 0));
+    assert_eq!(rt;
+        answer(draft.rule(&[good(), good()], &one(1, v(9)))),
+        (5, 2, 0)
+    );
     let book = draft.seal();
     assert_eq!(rt; book.rules() + book.constraints() + book.queries(), 0);
     Ok(())

@@ -37,11 +37,11 @@ fn rules_run_out(rt: HostRuntime) -> Result<(), Fail> {
 #[test]
 fn constraints_run_out(rt: HostRuntime) -> Result<(), Fail> {
     let mut draft = start(&rt, rt.alloc())?;
-    let good = one(1, v(1));
+    let good = || one(1, v(1));
     for _ in 0..32 {
-        let _ = draft.constraint(&[good]);
+        let _ = draft.constraint(&[good()]);
     }
-    assert_eq!(rt; answer(draft.constraint(&[good])), (8, 0, 0));
+    assert_eq!(rt; answer(draft.constraint(&[good()])), (8, 0, 0));
     let book = draft.seal();
     assert_eq!(rt; book.constraints(), 32);
     assert!(rt; book.constraint(32).is_some());
@@ -52,9 +52,9 @@ fn constraints_run_out(rt: HostRuntime) -> Result<(), Fail> {
 #[test]
 fn queries_run_out(rt: HostRuntime) -> Result<(), Fail> {
     let mut draft = start(&rt, rt.alloc())?;
-    let good = one(1, v(1));
+    let good = || one(1, v(1));
     for _ in 0..16 {
-        let _ = draft.query(&[good]);
+        let _ = draft.query(&[good()]);
     }
     assert_eq!(rt; answer(draft.query(&[one(9, v(9))])), (8, 0, 0));
     let book = draft.seal();

@@ -37,7 +37,11 @@ fn added_atoms(rt: HostRuntime) -> Result<(), Fail> {
     let said = adds(&mut checker, 1, [two(2, k(17), v(1)), one(1, n(1000000))]);
     assert_eq!(rt; said, [Said::Refused(5, 0, 1), Said::Refused(5, 0, 0)]);
     let good = || two(2, k(17), n(999999));
-    let said = adds(&mut checker, 1, [good(), good(), one(1, k(17)), one(1, k(18))]);
+    let said = adds(
+        &mut checker,
+        1,
+        [good(), good(), one(1, k(17)), one(1, k(18))],
+    );
     assert_eq!(rt;
         said,
         [Said::At(1), Said::Already, Said::Already, Said::At(2)]

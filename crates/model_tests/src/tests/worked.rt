@@ -91,7 +91,7 @@ fn a_model_atom_by_atom(rt: HostRuntime) -> Result<(), Fail> {
     let mut checker = Checker::new(book, FlatShelf::new(&mut records), 1);
     let _ = lodges(&mut checker, six_facts());
     assert_eq!(rt; lodges(&mut checker, [one(2, ADA)]), [Said::At(6)]);
-    let atoms = [
+    let atoms = || [
         two(3, ADA, TOYS),
         two(4, ADA, BILL),
         two(5, BILL, TOYS),
@@ -105,7 +105,9 @@ fn a_model_atom_by_atom(rt: HostRuntime) -> Result<(), Fail> {
         Said::At(10),
         Said::At(11),
     ];
-    assert_eq!(rt; adds(&mut checker, 3, atoms), said);
+    assert_eq!(rt; adds(&mut checker, 3, atoms()), said);
+    let all = atoms();
+    let atoms = &all[..];
     assert_eq!(rt;
         counter(&mut checker, 3, &atoms[0..3]),
         Said::Refused(17, 3, 2)
@@ -115,7 +117,7 @@ fn a_model_atom_by_atom(rt: HostRuntime) -> Result<(), Fail> {
         Said::Refused(17, 3, 7)
     );
     let verdict = Verdict::NotEntailed { query: 3, size: 12 };
-    assert_eq!(rt; counter(&mut checker, 3, &atoms), Said::Judged(verdict));
+    assert_eq!(rt; counter(&mut checker, 3, atoms), Said::Judged(verdict));
     Ok(())
 }
 
