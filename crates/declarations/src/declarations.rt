@@ -1,8 +1,5 @@
 //! The predicates that are declared.
-ghost use Rattle.declarations.specs.Arities.{arities_of, arity_value, Declares};
-ghost use Rattle.semantics.specs.Subject.{numbered};
-ghost use Rattle.std.specs.Option.{option_map};
-ghost use Rattle.std.specs.Prelude.{◌≡◌, ◌≤◌, [], IfSome};
+ghost use Rattle.std.specs.Prelude.{◌≡◌, ◌≤◌, [], length, IfSome};
 
 use crate::arity::Arity;
 use arrayvec::ArrayVec;
@@ -12,9 +9,14 @@ use refusals::refusal::Refusal;
 #[derive(Drop)]
 pub struct Declarations {
     items: ArrayVec<Arity, 64>,
+    ghost few: { length items.items ≤ 64 },
 }
 
 impl Declarations {
+    ghost use Rattle.declarations.specs.Arities.{arities_of, arity_value, Declares};
+    ghost use Rattle.semantics.specs.Subject.{numbered};
+    ghost use Rattle.std.specs.Option.{option_map};
+
     /// Nothing is declared.
     pub fn new() -> Declarations
         ensures { arities_of result ≡ [] }

@@ -17,11 +17,11 @@ impl Declarations {
     pub fn check_patterns(&self, raws: &[RawAtom]) -> Result<Patterns, Refusal>
         ensures { PatternsChecked (arities_of self.now) raws.now result }
     {
-        let Some(row) = Row::from_slice(raws) else {
+        let Some(row) = Row::lent(raws) else {
             return Err(Refusal::WrongNumberOfPatterns {
                 patterns: raws.len(),
             });
         };
-        row.try_map(|index, raw| self.check(index, &raw))
+        row.try_map(|index, raw| self.check(index, raw))
     }
 }

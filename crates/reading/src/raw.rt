@@ -1,5 +1,5 @@
 //! Atoms as a caller writes them, unchecked.
-ghost use Rattle.std.specs.Prelude.{◌≡◌, [], length, MatchOption, min, take};
+ghost use Rattle.std.specs.Prelude.{◌≡◌, ◌≤◌, [], length, IfSome, MatchOption, min, take};
 
 use short_rows::first_four::FirstFour;
 use short_rows::row::Row;
@@ -48,6 +48,7 @@ impl RawAtom {
     /// The first four of them, or nothing where there are none.
     pub fn first(&self) -> Option<Row<RawTerm>>
         ensures row { MatchOption result (self.now.terms.first ≡ []) (λ row. row ≡ self.now.terms.first) }
+        ensures some { IfSome result (λ row. 1 ≤ length row) }
         ensures kept { length self.now.terms.first ≡ min self.now.terms.count 4 }
     {
         self.terms.first()

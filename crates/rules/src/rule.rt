@@ -20,4 +20,5 @@ pub struct Rule {
     head: Pattern,
     ghost guarded: { guard_of (patterns_meant body) ≡ Some guard } by { Prim.hlevel props },
     ghost few: { length head.terms ≤ 4 },
+    ghost short: { length body ≤ 4 },
 }

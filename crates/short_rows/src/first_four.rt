@@ -1,5 +1,5 @@
 //! The first four of a kind.
-ghost use Rattle.std.specs.Prelude.{MatchOption, [], ◌≡◌, length, min, take};
+ghost use Rattle.std.specs.Prelude.{IfSome, MatchOption, [], ⊤, ◌≡◌, ◌≤◌, length, min, take};
 
 use crate::row::Row;
 use std::alloc::AllocError;
@@ -32,6 +32,10 @@ impl<T> Model for FirstFour<T> {
 
 /// A copy. A derive would clone each item, and what it makes of them is not known to be kept whole.
 impl<T: Copy> Clone for FirstFour<T> {
+    ghost is_clone = { λ x y. y ≡ x };
+
+    ghost is_infallible = { λ _. ⊤ };
+
     fn clone(&self) -> Result<FirstFour<T>, AllocError> {
         Ok(*self)
     }
@@ -60,6 +64,7 @@ impl<T: Copy> FirstFour<T> {
     /// The first four, if there are any.
     pub fn first(&self) -> Option<Row<T>>
         ensures row { MatchOption result (self.now.first ≡ []) (λ row. row ≡ self.now.first) }
+        ensures some { IfSome result (λ row. 1 ≤ length row) }
         ensures kept { length self.now.first ≡ min self.now.count 4 }
     {
         self.first

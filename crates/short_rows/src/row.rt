@@ -2,7 +2,7 @@
 ghost use Rattle.short_rows.specs.Tries.{Each, TriesFrom};
 ghost use Rattle.std.specs.Cmp.Lexicographic.{lists_equiv, lists_per};
 ghost use Rattle.std.specs.List.{slice_get};
-ghost use Rattle.std.specs.Prelude.{◌≡◌, ◌≤◌, ◌<◌, [], ◌∷◌, ◌++◌, length, MatchOption, ◌⊎◌, ℕ};
+ghost use Rattle.std.specs.Prelude.{◌≡◌, ◌≤◌, ◌<◌, [], ◌∷◌, ◌++◌, length, map, IfSome, MatchOption, ◌⊎◌, ℕ};
 ghost use lib.Pointwise.{pointwise, pointwise_decides};
 
 use exact::equality::ExactEq;
@@ -65,6 +65,22 @@ impl<T> Row<T> {
             Kept::Two(_) => 2,
             Kept::Three(_) => 3,
             Kept::Four(_) => 4,
+        }
+    }
+}
+
+impl<T> Row<T> {
+    /// A row of references to these, if they are one to four.
+    pub fn lent<'a>(items: &'a [T]) -> Option<Row<&'a T>>
+        ensures row { MatchOption result ((1 ≤ length items.now) × (length items.now ≤ 4) → ⊥) (λ row. map (λ x. x.now) row ≡ items.now) }
+        ensures few { IfSome result (λ _. (1 ≤ length items.now) × (length items.now ≤ 4)) }
+    {
+        match items {
+            [a] => Row::from_slice(&[a]),
+            [a, b] => Row::from_slice(&[a, b]),
+            [a, b, c] => Row::from_slice(&[a, b, c]),
+            [a, b, c, d] => Row::from_slice(&[a, b, c, d]),
+            _ => None,
         }
     }
 }
