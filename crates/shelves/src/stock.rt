@@ -37,7 +37,7 @@ pub trait Shelf: Stock {
 
     /// Puts a new atom at the end. A full shelf is left as it was, as a whole; of an atom that stands here already
     /// only the list and the free count are promised to stay. It has no body here: one would need a public push that asks
-    /// for room, and no public function asks anything.
+    /// for room, and no call of a store asks anything.
     fn put(&mut self, atom: GroundAtom) -> Result<Taken, Full>
         ensures puts { Puts (Self.Stock.list self.old) (free self.old) atom result (Self.Stock.list self.new) (free self.new) }
         ensures full { OnErr result (self.new ≡ self.old) };

@@ -65,17 +65,15 @@ impl<S: Shelf> Stock for Overlay<S> {
     }
 
     fn get(&self, place: usize) -> Option<GroundAtom> {
-        let own = self.seen();
         if place < self.below.len() {
             self.below.get(place)
         } else {
-            at(own, place - self.below.len())
+            at(self.seen(), place - self.below.len())
         }
     }
 
     fn contains(&self, atom: &GroundAtom) -> bool {
-        let own = self.seen();
-        self.below.contains(atom) || stands(own, atom)
+        self.below.contains(atom) || stands(self.seen(), atom)
     }
 }
 
