@@ -19,11 +19,11 @@ fn parts<'a>(heap: Global, bytes: &'a [u8]) -> Result<Vec<&'a [u8]>, AllocError>
 pub(crate) fn split<'a>(heap: Global, bytes: &'a [u8]) -> Result<Vec<&'a [u8]>, ReadError>
     ensures { IfRead result (λ o. option_map (λ v. map (λ l. l.now) v.items) o ≡ lines_of bytes.now) }
 {
-    let mut lines = parts(heap, bytes)?;
-    let rest = lines.pop().ok_or(ReadError::Broken)?;
-    if rest.is_empty() {
-        Ok(lines)
-    } else {
-        Err(ReadError::Broken)
+    let Some((last, text)) = bytes.split_last() else {
+        return Ok(Vec::new(heap));
+    };
+    if *last != b'\n' {
+        return Err(ReadError::Broken);
     }
+    Ok(parts(heap, text)?)
 }
