@@ -36,7 +36,6 @@ use Rattle.protocol.specs.Calls.{Idle, unfit, not_fired, unfit_atom, Claimed, Cl
 use Rattle.protocol.proofs.Theories.{numbered_map}
 use Rattle.protocol.proofs.Verdicts.{claim_true, clash_true, refute_true}
 use Rattle.checker.specs.Parts.{ReadsFact, ReadsAtom, LodgeJudged, StepJudged, AddJudged, AtomPut, ClaimJudged, ClashJudged, RefuteJudged, Closed}
-use Rattle.checker.specs.Seen.{Seen}
 use Rattle.checker.specs.Views.{plain, TrueAfter, TrueNow}
 use Rattle.checker.specs.declared.slip.Returned.{Returned}
 
@@ -98,17 +97,17 @@ step_judged s n q k p rule (Err e) own few named (judged.no_null b is fires over
     let row : length (map slot_meant rule.head.terms) ≤ 4 = omega (arith, rule.few, length-map rule.head.terms slot_meant) in
     absurd (omega (arith, most, row, over, few))
 
-module _ {S : Type 0} (c d : Seen S) (n : ℕ) where
+module _ (s t : State) (n : ℕ) where
   -- what was judged, and how the check ends
-  pub claimed : (p : Places) (j : Result Verdict Refusal) (r : Result Verdict (Returned ℕ)) → ClaimJudged c.state n p j → Closed c n j r d → Claimed c.state n p (plain r) d.state
+  pub claimed : (p : Places) (j : Result Verdict Refusal) (r : Result Verdict (Returned ℕ)) → ClaimJudged s n p j → Closed s n j r t → Claimed s n p (plain r) t
   claimed p (Ok v) r h e = rw e.0 (h.0, h.1, h.2, h.3, h.4, h.5, e.1)
   claimed p (Err x) r h e = rw (e.0, e.1) (h, refl)
 
-  pub clashed : (k : ℕ) (p : Places) (j : Result Verdict Refusal) (r : Result Verdict (Returned ℕ)) → ClashJudged c.state n k p j → Closed c n j r d → Clashed c.state n k p (plain r) d.state
+  pub clashed : (k : ℕ) (p : Places) (j : Result Verdict Refusal) (r : Result Verdict (Returned ℕ)) → ClashJudged s n k p j → Closed s n j r t → Clashed s n k p (plain r) t
   clashed k p (Ok v) r h e = rw e.0 (h.0, h.1, h.2, h.3, h.4, h.5, e.1)
   clashed k p (Err x) r h e = rw (e.0, e.1) (h, refl)
 
-  pub refuted : (j : Result Verdict Refusal) (r : Result Verdict (Returned ℕ)) → RefuteJudged c.state n j → Closed c n j r d → Refuted c.state n (plain r) d.state
+  pub refuted : (j : Result Verdict Refusal) (r : Result Verdict (Returned ℕ)) → RefuteJudged s n j → Closed s n j r t → Refuted s n (plain r) t
   refuted (Ok v) r h e = rw e.0 (h.0, h.1, h.2, h.3, h.4, h.5, h.6, e.1)
   refuted (Err x) r h e = rw (e.0, e.1) (h, refl)
 
@@ -122,10 +121,10 @@ module _ (m : Candidate) (s t : State) (n : ℕ) where
   clash_after k p (Ok v) h = λ book number start es met. clash_true m book number start es s t n k p v met h
   clash_after k p (Err x) h = tt
 
-pub refute_now : {S : Type 0} (m : Candidate) (c d : Seen S) (n : ℕ) (j : Result Verdict Refusal) (r : Result Verdict (Returned ℕ)) → OnOk j ((own : List subject.Atom) × (c.state.pile ≡ c.state.facts ++ own)) → Closed c n j r d → Refuted c.state n (plain r) d.state → TrueNow m c.state (plain r)
-refute_now m c d n (Ok v) (Ok w) own e h = refute_true m c.state d.state own.0 n w own.1 h
-refute_now m c d n j (Err x) own e h = tt
-refute_now m c d n (Err x) (Ok w) own e h = cc
+pub refute_now : (m : Candidate) (s t : State) (n : ℕ) (j : Result Verdict Refusal) (r : Result Verdict (Returned ℕ)) → OnOk j ((own : List subject.Atom) × (s.pile ≡ s.facts ++ own)) → Closed s n j r t → Refuted s n (plain r) t → TrueNow m s (plain r)
+refute_now m s t n (Ok v) (Ok w) own e h = refute_true m s t own.0 n w own.1 h
+refute_now m s t n j (Err x) own e h = tt
+refute_now m s t n (Err x) (Ok w) own e h = cc
 
 -- what a put answers, as the answer of the call that made it
 pub added : (s t : State) (n v : ℕ) (w : RawAtom) (a : Atom Term) (r : Result Taken room.Full) → v ≡ s.nulls → AddJudged s n w (Ok a) → AtomPut s (atom_meant a) v r t → Added s n w (result_or r (Err OverlayFull)) t

@@ -1,12 +1,16 @@
 -- How a checker's state follows what its overlay does.
-use Rattle.std.proofs.Common.{◌≡◌, ℕ, ◌+◌, ◌-◌, ◌*◌, ◌<◌, ◌≤◌, min, Option, ◌⊎◌, List, [], ◌∷◌, ◌++◌, map, length, take, Ok, Err, Result, sym, refl, ap, ◌∙◌, subst, inl, inr, ⊎_elim, arith}
+use Rattle.std.proofs.Common.{◌≡◌, ℕ, ◌+◌, ◌-◌, ◌*◌, ◌<◌, ◌≤◌, min, Bool, true, Some, None, Option, ◌⊎◌, List, [], ◌∷◌, ◌++◌, map, length, take, Ok, Err, Result, sym, refl, ap, ◌∙◌, subst, inl, inr, ⊎_elim, arith}
 use Rattle.std.specs.Result.{result_or}
+use mathlib.Core.HLevel.{is_prop→PathP}
+use mathlib.Core.Bool.{Bool-set}
+use native.Mathlib.Bridge.{le_prop}
 use Rattle.std.proofs.lemmas.List.{map-append, length-map, length_push}
-use Rattle.std.proofs.lemmas.Bool.{cases_lt}
+use Rattle.std.proofs.lemmas.Bool.{cases_lt, eqb-true}
 use Rattle.semantics.specs.Subject as subject
 use Rattle.atoms.specs.Meaning.{atom_meant}
 use Rattle.atoms.specs.declared.atom.Atom.{Atom}
 use Rattle.terms.specs.declared.term.Term.{Term}
+use Rattle.book.specs.Tables.{entries}
 use Rattle.book.specs.declared.book.Book.{Book}
 use Rattle.calls.specs.declared.answer.Check.{Check}
 use Rattle.matching.specs.Searches.{pile}
@@ -23,7 +27,26 @@ use Rattle.shelves.specs.declared.taken.Taken.TheVariants.{Already, At}
 use Rattle.steps.proofs.Standing.{has_on, on_has}
 use Rattle.protocol.specs.States.{State, Full}
 use Rattle.checker.specs.Parts.{FactPut, AtomPut}
-use Rattle.checker.specs.Seen.{state_of}
+use Rattle.checker.specs.Shapes.{query_known, own_known}
+use Rattle.checker.specs.declared.checker.Checker.{Checker}
+
+-- what is true of every checker has one proof at most
+pub same_checker : {S : Type 0} (c d : Checker S) → c.book ≡ d.book → c.pile ≡ d.pile → c.number ≡ d.number → c.check ≡ d.check → c.nulls ≡ d.nulls → c ≡ d
+same_checker c d b p n k m = λ i. record {
+  book = b i;
+  pile = p i;
+  number = n i;
+  check = k i;
+  nulls = m i;
+  asked = is_prop→PathP (λ j. query_known (length (entries (b j).queries)) (k j) ≡ true) (λ j. Bool-set _ _) c.asked d.asked i;
+  idle = is_prop→PathP (λ j. own_known (length (p j).own.items) (k j) ≡ true) (λ j. Bool-set _ _) c.idle d.idle i;
+  few = is_prop→PathP (λ j. m j ≤ 4 * length (p j).own.items) (λ j. le_prop) c.few d.few i;
+}
+
+-- with no check open the overlay has no atoms of its own
+pub none_own : (own : ℕ) (k : Option Check) → own_known own k ≡ true → k ≡ None → own ≡ 0
+none_own own None h e = eqb-true own 0 h
+none_own own (Some k) h e = cc
 
 pub pile_push : (xs : List (Atom Term)) (a : Atom Term) → pile (xs ++ a ∷ []) ≡ pile xs ++ atom_meant a ∷ []
 pile_push xs a = map-append atom_meant xs (a ∷ [])
@@ -34,8 +57,9 @@ pile_splits list o short =
     (_, ap pile (stacked_is 1000000 (list o.below) o.own.items short) ∙ map-append atom_meant (list o.below) _)
 
 module _ {S : Type 0} (list : S → List (Atom Term)) (free : S → ℕ) (b : Book) (n : ℕ) (check : Option Check) where
-  abbrev seen : Overlay S → ℕ → State
-  seen = state_of list free b n check
+  -- the state, by its overlay and nulls
+  abbrev pub seen : Overlay S → ℕ → State
+  seen o m = record { book = b; number = n; facts = pile (list o.below); free = free o.below; pile = pile (stacked list o); added = length o.own.items; nulls = m; check = check }
 
   pub fact_put : (o p : Overlay S) (m : ℕ) (a : Atom Term) (r : Result Taken NotLowered) → length o.own.items ≡ 0 → length (list p.below) ≤ 1000000 → Lowers list free o a r p → FactPut (seen o m) (atom_meant a) (result_or r (Err (record {}))) (seen p m)
   fact_put o p m a (Ok Already) idle short (none, (has, same, left), own) = (

@@ -1,4 +1,3 @@
 pub mod Parts
-pub mod Seen
 pub mod Shapes
 pub mod Views

@@ -22,7 +22,6 @@ use Rattle.chase.specs.Refuting.{Refutes}
 use Rattle.chase.specs.Unfit.{FirstUnfit}
 use Rattle.steps.specs.declared.step.Head.{Head}
 use Rattle.protocol.specs.States.{State, closed, with_fact, with_atom, Full, Own, Foreign, OwnDerivation, OwnModel, raw_meant}
-use Rattle.checker.specs.Seen.{Seen}
 use Rattle.checker.specs.Shapes.{Known}
 use Rattle.checker.specs.declared.slip.Returned.{Returned}
 use Rattle.protocol.specs.Calls.{Idle, Asks, WrittenFact, WrittenAtom, NotLodged, NotOpened, Yields, NotStepped, NotAdded, Shown, Unshown, NotClaimed, NotClashed, NotAccepted}
@@ -94,7 +93,7 @@ abbrev pub OpenJudged : State → ℕ → Result (Unit {0}) Refusal → Type 0
 OpenJudged s q (Ok u) = Idle s × ((ps : List Pattern) × Asks s q ps) × FirstUnfit (predicates_of s.book) s.facts None × Known s.book q
 OpenJudged s q (Err e) = NotOpened s q e
 
--- the check ends with the verdict that was judged, and the slip is spent; a refusal hands it back and changes nothing
-abbrev pub Closed : {S : Type 0} → Seen S → ℕ → Result Verdict Refusal → Result Verdict (Returned ℕ) → Seen S → Type 0
-Closed c slip (Ok v) r d = (r ≡ Ok v) × (d.state ≡ closed c.state) × (d.pile.below ≡ c.pile.below)
-Closed c slip (Err e) r d = (r ≡ Err (record { refusal = e; slip = slip })) × (d ≡ c)
+-- a checker in state s ends the check with the verdict that was judged, and the slip is spent; a refusal hands it back
+abbrev pub Closed : State → ℕ → Result Verdict Refusal → Result Verdict (Returned ℕ) → State → Type 0
+Closed s slip (Ok v) r t = (r ≡ Ok v) × (t ≡ closed s)
+Closed s slip (Err e) r t = (r ≡ Err (record { refusal = e; slip = slip })) × (t ≡ s)

@@ -1,5 +1,5 @@
 -- What is true of every checker.
-use Rattle.std.specs.Prelude.{◌≡◌, ℕ, ◌*◌, ◌≤◌, length, None, Option, IfSome}
+use Rattle.std.specs.Prelude.{◌≡◌, ℕ, ◌≤◌, Bool, true, ◌&&◌, ◌==◌, nat_le, length, Some, None, Option}
 use Rattle.book.specs.Tables.{entries}
 use Rattle.book.specs.declared.book.Book.{Book}
 use Rattle.calls.specs.declared.answer.Check.{Check}
@@ -13,11 +13,12 @@ query_of (Model q) = q
 abbrev pub Known : Book → ℕ → Type 0
 Known b q = (1 ≤ q) × (q ≤ length (entries b.queries))
 
--- of the book, the open check, and the counts of the overlay's own atoms and of the nulls issued
-pub record Sound (b : Book) (check : Option Check) (own nulls : ℕ) : Type 0 where
-  -- the query of an open check is one of the book's
-  pub asked : IfSome check (λ k. Known b (query_of k))
-  -- the overlay has no atoms of its own while no check is open
-  pub idle : check ≡ None → own ≡ 0
-  -- at most four nulls are issued for each atom added
-  pub few : nulls ≤ 4 * own
+-- the query of an open check is one of the n queries
+abbrev pub query_known : ℕ → Option Check → Bool
+query_known n None = true
+query_known n (Some k) = nat_le 1 (query_of k) && nat_le (query_of k) n
+
+-- an overlay has no atoms of its own while no check is open
+abbrev pub own_known : ℕ → Option Check → Bool
+own_known own None = own == 0
+own_known own (Some k) = true

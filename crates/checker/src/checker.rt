@@ -1,9 +1,11 @@
 //! The checker.
+ghost use Rattle.book.specs.Tables.{entries};
+ghost use Rattle.checker.specs.Shapes.{query_known, own_known};
+ghost use Rattle.std.specs.Prelude.{◌≡◌, ◌*◌, ◌≤◌, true, length};
+
 use book::book::Book;
 use calls::answer::Check;
 use overlays::overlay::Overlay;
-use shelves::stock::Shelf;
-use std::marker::Model;
 
 mod claiming;
 mod clashing;
@@ -18,22 +20,13 @@ mod showing;
 
 /// Checks certificates against a book and the facts on a shelf, with an overlay of its own on that shelf.
 #[derive(Drop)]
-pub struct Checker<S: Shelf> {
+pub struct Checker<S> {
     book: Book,
     pile: Overlay<S>,
     number: u16,
     check: Option<Check>,
     nulls: u32,
-}
-
-impl<S: Shelf> Model for Checker<S> {
-    ghost use Rattle.checker.specs.Seen.{Seen, seen};
-    ghost use Rattle.checker.specs.Shapes.{Sound};
-    ghost use Rattle.std.specs.Prelude.{length};
-
-    ghost Value = { Seen S };
-
-    ghost view = { λ c. seen S.Stock.list S.Shelf.free c.book c.number c.check c.pile c.nulls };
-
-    ghost invariant = { λ c. Sound c.book c.check (length c.pile.own.items) c.nulls };
+    ghost asked: { query_known (length (entries book.queries)) check ≡ true },
+    ghost idle: { own_known (length pile.own.items) check ≡ true },
+    ghost few: { nulls ≤ 4 * length pile.own.items },
 }

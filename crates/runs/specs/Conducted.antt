@@ -13,7 +13,8 @@ use Rattle.protocol.specs.Law.{Law, TrueOfDecidable}
 use Rattle.protocol.specs.Runs.{Did, Ran, Met}
 use Rattle.protocol.specs.States.{State}
 use Rattle.refusals.specs.declared.refusal.Refusal.{Refusal}
-use Rattle.checker.specs.Seen.{Seen}
+use Rattle.checker.specs.Views.{view}
+use Rattle.checker.specs.declared.checker.Checker.{Checker}
 use Rattle.runs.specs.Pools.{Uses, Answers, held_in, slot_of, spends, kept_slot, pool_after, Carried}
 use Rattle.runs.specs.declared.pool.HeldSlip.{HeldSlip}
 use Rattle.runs.specs.declared.conduct.Unmade.{Unmade}
@@ -50,8 +51,8 @@ pub record Lawful (m : Candidate) (book : Book) (number : ℕ) (facts : List sub
   pub law : Law m book number facts es
   pub decidable : TrueOfDecidable book facts es
 
-module _ {S : Type 0} (list : S → List (Atom Term)) (m : Candidate) where
+module _ {S : Type 0} (list : S → List (Atom Term)) (free : S → ℕ) (m : Candidate) where
   -- a checker, and the events at the end of the log; or want of memory before the first call, and then nothing has changed
-  abbrev pub Conducted : Book → S → ℕ → List Call → List (Option HeldSlip) → List Event → Result (Seen S) (Unmade S) → List (Option HeldSlip) → List Event → Type 0
-  Conducted book shelf number calls pool log (Ok c) end log-after = (es : List Event) × (log-after ≡ log ++ es) × Lawful m book number (pile (list shelf)) calls pool end es c.state
+  abbrev pub Conducted : Book → S → ℕ → List Call → List (Option HeldSlip) → List Event → Result (Checker S) (Unmade S) → List (Option HeldSlip) → List Event → Type 0
+  Conducted book shelf number calls pool log (Ok c) end log-after = (es : List Event) × (log-after ≡ log ++ es) × Lawful m book number (pile (list shelf)) calls pool end es (view list free c)
   Conducted book shelf number calls pool log (Err u) end log-after = (u.book ≡ book) × (u.shelf ≡ shelf) × (end ≡ pool) × (log-after ≡ log)

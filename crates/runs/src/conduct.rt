@@ -28,7 +28,7 @@ pub fn conduct<W: Candidate, S: Shelf>(
     pool: &mut Vec<Slot>,
     log: &mut Vec<Event>,
 ) -> Result<Checker<S>, Unmade<S>>
-    ensures { Conducted S.Stock.list W.Candidate.has book shelf number calls.now pool.old.items log.old.items result pool.new.items log.new.items }
+    ensures { Conducted S.Stock.list S.Shelf.free W.Candidate.has book shelf number calls.now pool.old.items log.old.items result pool.new.items log.new.items }
 {
     if pool.reserve(calls.len()).is_err() || log.reserve(calls.len()).is_err() {
         return Err(Unmade { book, shelf });

@@ -2,6 +2,7 @@
 //!
 //! Checker and pool stay two parameters: the caller lends the pool, the checker is made here and handed out, and a struct of
 //! the two would hold the one by reference and lengthen each clause.
+ghost use Rattle.checker.specs.Views.{view};
 ghost use Rattle.std.specs.Prelude.{◌≡◌, ◌+◌, ◌<◌, ◌≤◌, length, vec_len, vec_capacity};
 ghost use Rattle.calls.specs.declared.call.Call.TheVariants.{Under};
 ghost use Rattle.runs.specs.Conducted.{Performed, Went, Stored};
@@ -22,7 +23,7 @@ fn perform_under<W: Candidate, S: Shelf>(
     slot: usize,
     call: SlipCall,
 ) -> Event
-    ensures done { Performed checker.old.state pool.old.items (Under slot call) result checker.new.state pool.new.items }
+    ensures done { Performed (view S.Stock.list S.Shelf.free checker.old) pool.old.items (Under slot call) result (view S.Stock.list S.Shelf.free checker.new) pool.new.items }
     ensures len { vec_len pool.new ≡ vec_len pool.old }
     ensures room { vec_capacity pool.new ≡ vec_capacity pool.old }
 {
@@ -55,7 +56,7 @@ pub(crate) fn perform<W: Candidate, S: Shelf>(
     call: Call,
 ) -> Event
     requires { vec_len pool.old < vec_capacity pool.old }
-    ensures done { Performed checker.old.state pool.old.items call result checker.new.state pool.new.items }
+    ensures done { Performed (view S.Stock.list S.Shelf.free checker.old) pool.old.items call result (view S.Stock.list S.Shelf.free checker.new) pool.new.items }
     ensures len { vec_len pool.new ≤ vec_len pool.old + 1 }
     ensures room { vec_capacity pool.new ≡ vec_capacity pool.old }
 {
@@ -82,7 +83,7 @@ pub(crate) fn run<W: Candidate, S: Shelf>(
 )
     requires slots { vec_len pool.old + length calls.now ≤ vec_capacity pool.old }
     requires notes { vec_len log.old + length calls.now ≤ vec_capacity log.old }
-    ensures { Went checker.old.state pool.old.items calls.now log.old.items checker.new.state pool.new.items log.new.items }
+    ensures { Went (view S.Stock.list S.Shelf.free checker.old) pool.old.items calls.now log.old.items (view S.Stock.list S.Shelf.free checker.new) pool.new.items log.new.items }
 {
     for call in calls {
         let event = perform::<W, S>(checker, pool, *call);

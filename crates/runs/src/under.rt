@@ -1,5 +1,5 @@
 //! Calls of a list under what is held in their slot.
-ghost use Rattle.checker.specs.Views.{plain};
+ghost use Rattle.checker.specs.Views.{plain, view};
 ghost use Rattle.runs.specs.Conducted.{Used};
 ghost use Rattle.runs.specs.Pools.{back_of};
 ghost use Rattle.runs.specs.declared.pool.HeldSlip.TheVariants as held;
@@ -32,7 +32,7 @@ fn under_derivation<W: Candidate, S: Shelf>(
     own: DerivationSlip,
     call: SlipCall,
 ) -> (Option<DerivationSlip>, Event)
-    ensures { Used checker.old.state (Some (held.Derivation own)) call result.1 checker.new.state (option_map held.Derivation result.0) }
+    ensures { Used (view S.Stock.list S.Shelf.free checker.old) (Some (held.Derivation own)) call result.1 (view S.Stock.list S.Shelf.free checker.new) (option_map held.Derivation result.0) }
 {
     let slip = own.number();
     match call {
@@ -79,7 +79,7 @@ fn under_model<W: Candidate, S: Shelf>(
     own: ModelSlip,
     call: SlipCall,
 ) -> (Option<ModelSlip>, Event)
-    ensures { Used checker.old.state (Some (held.Model own)) call result.1 checker.new.state (option_map held.Model result.0) }
+    ensures { Used (view S.Stock.list S.Shelf.free checker.old) (Some (held.Model own)) call result.1 (view S.Stock.list S.Shelf.free checker.new) (option_map held.Model result.0) }
 {
     let slip = own.number();
     match call {
@@ -108,7 +108,7 @@ pub(crate) fn under<W: Candidate, S: Shelf>(
     held: Slot,
     call: SlipCall,
 ) -> (Slot, Event)
-    ensures { Used checker.old.state held call result.1 checker.new.state result.0 }
+    ensures { Used (view S.Stock.list S.Shelf.free checker.old) held call result.1 (view S.Stock.list S.Shelf.free checker.new) result.0 }
 {
     match held {
         None => (None, Event::NoSlip),

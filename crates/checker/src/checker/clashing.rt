@@ -1,7 +1,7 @@
 //! Claims on a constraint.
 ghost use Rattle.calls.specs.declared.event.Event.TheVariants.{Clash};
 ghost use Rattle.checker.specs.Parts.{ClashJudged};
-ghost use Rattle.checker.specs.Views.{Left, plain, Handed, TrueAfter};
+ghost use Rattle.checker.specs.Views.{Left, plain, Handed, TrueAfter, view};
 ghost use Rattle.protocol.specs.Runs.{Did};
 
 use crate::checker::Checker;
@@ -20,7 +20,7 @@ impl<S: Shelf> Checker<S> {
         constraint: usize,
         places: Places,
     ) -> Result<Verdict, Refusal>
-        ensures { ClashJudged self.now.state slip.now constraint places result }
+        ensures { ClashJudged (view S.Stock.list S.Shelf.free self.now) slip.now constraint places result }
     {
         self.own(slip)?;
         let patterns = self
@@ -41,10 +41,10 @@ impl<S: Shelf> Checker<S> {
         constraint: usize,
         places: Places,
     ) -> Result<Verdict, Returned<DerivationSlip>>
-        ensures did { Did self.old.state (Clash slip constraint places (plain result)) self.new.state }
+        ensures did { Did (view S.Stock.list S.Shelf.free self.old) (Clash slip constraint places (plain result)) (view S.Stock.list S.Shelf.free self.new) }
         ensures left { Left self.old result self.new }
         ensures back { Handed slip result }
-        ensures truth { TrueAfter W.Candidate.has self.old.state (plain result) }
+        ensures truth { TrueAfter W.Candidate.has (view S.Stock.list S.Shelf.free self.old) (plain result) }
     {
         let judged = self.judge_clash(&slip, constraint, places);
         self.close(slip, judged)

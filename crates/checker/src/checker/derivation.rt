@@ -1,7 +1,7 @@
 //! Steps of a derivation.
 ghost use Rattle.calls.specs.declared.event.Event.TheVariants.{Step};
 ghost use Rattle.checker.specs.Parts.{StepJudged};
-ghost use Rattle.checker.specs.Views.{Left};
+ghost use Rattle.checker.specs.Views.{Left, view};
 ghost use Rattle.protocol.specs.Runs.{Did};
 
 use crate::checker::Checker;
@@ -14,7 +14,7 @@ use steps::step::{Head, judge_step};
 impl<S: Shelf> Checker<S> {
     /// The head that the rule gives at the place, if the step may be made under the slip.
     fn judge_use(&self, slip: &DerivationSlip, rule: usize, place: usize) -> Result<Head, Refusal>
-        ensures { StepJudged self.now.state slip.now rule place result }
+        ensures { StepJudged (view S.Stock.list S.Shelf.free self.now) slip.now rule place result }
     {
         self.own(slip)?;
         let found = self
@@ -31,7 +31,7 @@ impl<S: Shelf> Checker<S> {
         rule: usize,
         place: usize,
     ) -> Result<Taken, Refusal>
-        ensures did { Did self.old.state (Step slip.now rule place result) self.new.state }
+        ensures did { Did (view S.Stock.list S.Shelf.free self.old) (Step slip.now rule place result) (view S.Stock.list S.Shelf.free self.new) }
         ensures left { Left self.old result self.new }
     {
         let head = self.judge_use(slip, rule, place)?;

@@ -27,7 +27,7 @@ impl<S: Shelf> Checker<S> {
 
     /// Which check is open, if one is.
     pub fn check(&self) -> Option<Check>
-        ensures { result ≡ self.now.state.check }
+        ensures { result ≡ self.now.check }
     {
         self.check
     }

@@ -4,6 +4,7 @@ ghost use Rattle.atoms.specs.Meaning.{atom_meant};
 ghost use Rattle.book.specs.Theory.{constraints_of};
 ghost use Rattle.checker.specs.Parts.{FactPut, AtomPut, Owns, Closed};
 ghost use Rattle.checker.specs.Shapes.{Known, query_of};
+ghost use Rattle.checker.specs.Views.{Left, view};
 ghost use Rattle.declarations.specs.Bodies.{patterns_meant};
 ghost use Rattle.protocol.specs.Calls.{Asks};
 ghost use Rattle.protocol.specs.States.{anew};
@@ -23,7 +24,7 @@ use shelves::taken::{Full, Taken};
 impl<S: Shelf> Checker<S> {
     /// The query of the open check, if the slip is its own.
     pub(crate) fn own<K: Kind>(&self, slip: &Slip<K>) -> Result<usize, Refusal>
-        ensures { Owns K.check_of self.now.state slip.now result }
+        ensures { Owns K.check_of (view S.Stock.list S.Shelf.free self.now) slip.now result }
     {
         self.check
             .and_then(|check| K::query(check))
@@ -33,23 +34,23 @@ impl<S: Shelf> Checker<S> {
 
     /// The patterns of a query that is there.
     pub(crate) fn patterns_of(&self, query: usize) -> &Patterns
-        requires { Known self.now.state.book query }
-        ensures { Asks self.now.state query (patterns_meant result.now) }
+        requires { Known self.now.book query }
+        ensures { Asks (view S.Stock.list S.Shelf.free self.now) query (patterns_meant result.now) }
     {
         self.book.query(query).unwrap()
     }
 
     /// The patterns of the constraint of that number, if there is one.
     pub(crate) fn constraint_of(&self, constraint: usize) -> Option<&Patterns>
-        ensures { option_map (λ p. patterns_meant p.now) result ≡ numbered (constraints_of self.now.state.book) constraint }
+        ensures { option_map (λ p. patterns_meant p.now) result ≡ numbered (constraints_of self.now.book) constraint }
     {
         self.book.constraint(constraint)
     }
 
     /// Puts an atom on the shelf, while no check is open.
     pub(crate) fn put_fact(&mut self, atom: GroundAtom) -> Result<Taken, Full>
-        requires { self.old.state.check ≡ None }
-        ensures put { FactPut self.old.state (atom_meant atom) result self.new.state }
+        requires { self.old.check ≡ None }
+        ensures put { FactPut (view S.Stock.list S.Shelf.free self.old) (atom_meant atom) result (view S.Stock.list S.Shelf.free self.new) }
         ensures full { OnErr result (self.new ≡ self.old) }
         ensures own { self.new.pile.own ≡ self.old.pile.own }
     {
@@ -58,9 +59,9 @@ impl<S: Shelf> Checker<S> {
 
     /// Puts an atom into the overlay of the open check; with a new one so many nulls are issued.
     pub(crate) fn put_atom(&mut self, atom: GroundAtom, nulls: u32) -> Result<Taken, Full>
-        requires open { self.old.state.check ≢ None }
-        requires few { nulls ≤ self.old.state.nulls + 4 }
-        ensures put { AtomPut self.old.state (atom_meant atom) nulls result self.new.state }
+        requires open { self.old.check ≢ None }
+        requires few { nulls ≤ self.old.nulls + 4 }
+        ensures put { AtomPut (view S.Stock.list S.Shelf.free self.old) (atom_meant atom) nulls result (view S.Stock.list S.Shelf.free self.new) }
         ensures full { OnErr result (self.new ≡ self.old) }
         ensures below { self.new.pile.below ≡ self.old.pile.below }
     {
@@ -73,8 +74,8 @@ impl<S: Shelf> Checker<S> {
 
     /// Empties the overlay and goes on with this check, or with none.
     pub(crate) fn restart(&mut self, check: Option<Check>)
-        requires { IfSome check (λ k. Known self.old.state.book (query_of k)) }
-        ensures state { self.new.state ≡ anew self.old.state check }
+        requires { IfSome check (λ k. Known self.old.book (query_of k)) }
+        ensures state { (view S.Stock.list S.Shelf.free self.new) ≡ anew (view S.Stock.list S.Shelf.free self.old) check }
         ensures below { self.new.pile.below ≡ self.old.pile.below }
     {
         self.pile.clear();
@@ -88,7 +89,8 @@ impl<S: Shelf> Checker<S> {
         slip: Slip<K>,
         judged: Result<Verdict, Refusal>,
     ) -> Result<Verdict, Returned<Slip<K>>>
-        ensures { Closed self.old slip judged result self.new }
+        ensures closed { Closed (view S.Stock.list S.Shelf.free self.old) slip judged result (view S.Stock.list S.Shelf.free self.new) }
+        ensures left { Left self.old result self.new }
     {
         match judged {
             Ok(verdict) => {

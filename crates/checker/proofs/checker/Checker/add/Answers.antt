@@ -10,4 +10,4 @@ returns-in_err-ground-clause-did g c =
 
 pub returns-clause-did : goal.returns-clause-did
 returns-clause-did g c =
-    rw c.or.ensures (added _ _ _ _ _ c.in_ok-ground.ground c.put_atom-2.result (ap (λ s. s.state.nulls) c.put_atom.view_is) c.in_ok-ground.ensures c.put_atom-2.ensures.put)
+    rw c.or.ensures (added _ _ _ _ _ c.in_ok-ground.ground c.put_atom.result refl c.in_ok-ground.ensures c.put_atom.ensures.put)

@@ -10,10 +10,10 @@ pub returns-in_err-found : goal.returns-in_err-found
 returns-in_err-found g c =
     let p = err_from_is_err_and c.from_residual-in_err-found.result c.from_residual-in_err-found.ensures.1 in
     let no = absent c.rule.result _ _ c.in_err-found.ensures.value in
-    rw (p.1, p.2, no.1) (no_rule c.in_ok-own.field-0 (refl, refl, refl) c.in_ok-own.ensures.0 (rw (← c.self.view_is) (entry_none _ rule_meant _ (entries c.self.inside.book.rules) c.args.rule c.rule.ensures no.0)))
+    rw (p.1, p.2, no.1) (no_rule c.in_ok-own.field-0 (refl, refl, refl) c.in_ok-own.ensures.0 ((entry_none _ rule_meant _ (entries c.args.self.now.book.rules) c.args.rule c.rule.ensures no.0)))
 
 pub returns : goal.returns
 returns g c =
-    let few : c.self.inside.nulls ≤ 1024 = omega (arith, c.self.invariant.few, c.self.inside.pile.few) in
-    step_judged _ _ c.in_ok-own.field-0 _ _ c.in_ok-found.found.now c.judge_step.result c.in_ok-own.ensures.0 (rw (← c.self.view_is) few)
-    (rw (← c.self.view_is) (entry_some _ rule_meant c.rule.result (entries c.self.inside.book.rules) c.args.rule c.rule.ensures _ c.in_ok-found.ensures.ok_part)) (rw (← c.self.view_is) c.judge_step.ensures)
+    let few : c.args.self.now.nulls ≤ 1024 = omega (arith, c.args.self.now.few, c.args.self.now.pile.few) in
+    step_judged _ _ c.in_ok-own.field-0 _ _ c.in_ok-found.found.now c.judge_step.result c.in_ok-own.ensures.0 (few)
+    ((entry_some _ rule_meant c.rule.result (entries c.args.self.now.book.rules) c.args.rule c.rule.ensures _ c.in_ok-found.ensures.ok_part)) (c.judge_step.ensures)

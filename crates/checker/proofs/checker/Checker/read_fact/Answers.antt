@@ -6,4 +6,4 @@ pub returns : goal.returns
 returns g c =
     let a = c.in_ok-fact.fact in
     let t = c.in_ok-fact.ensures in
-    rw (← c.self.view_is) ((a, t), fact_read (predicates_of c.self.inside.book) c.args.fact.now a c.ground.result t c.ground.ensures.predicate c.ground.ensures.terms)
+    ((a, t), fact_read (predicates_of c.args.self.now.book) c.args.fact.now a c.ground.result t c.ground.ensures.predicate c.ground.ensures.terms)
